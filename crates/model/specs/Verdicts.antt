@@ -1,0 +1,63 @@
+-- What the checker and peak use answer, for every input.
+use mathlib.Core.Path.{_≡_}
+use mathlib.Core.Option.{Option, none, some}
+use mathlib.Core.List.{List, [], _∷_, _++_}
+use mathlib.Core.Logic.{_⊎_}
+use Prim.Native.Nat.{ℕ, _<_, _≤_}
+use lib.ListN.{length, replicate}
+use Rattle.laws.specs.Rows.{at}
+use Rattle.laws.specs.Lowest.{Lowest, None}
+use Rattle.model.specs.Limits as limit
+use Rattle.model.specs.Graph.{Graph, order, many, edgesOf}
+use Rattle.model.specs.Refusals.{Rule, First, shape, unitless, cyclic, large-bound}
+use Rattle.model.specs.Answers.{numbered, refusalOf}
+use Rattle.model.specs.Use.{Lawful, Peak}
+use Rattle.model.specs.Faults as fault
+use Rattle.model.specs.declared.Finding as finding
+use Rattle.model.specs.declared.Finding.the-variants as found
+use Rattle.model.specs.declared.Verdict.{Verdict}
+use Rattle.model.specs.declared.Peaks.{Peaks}
+
+-- the refusal that a finding gives, if it gives one
+abbrev pub refusalIn : finding.Finding → Option (ℕ × ℕ)
+refusalIn found.Lawful = none
+refusalIn (found.Untimely i) = none
+refusalIn (found.Broken e) = none
+refusalIn (found.OverUse l k) = none
+refusalIn (found.Refused why) = some (numbered why)
+
+-- the lent rows that only the checker takes differ in length: units and K, or starts and n
+abbrev pub CheckUneven : Graph → List ℕ → List ℕ → Type 0
+CheckUneven g units t = (length units ≡ g .kinds → ⊥) ⊎ (length t ≡ many g → ⊥)
+
+-- the checker's refusals: 1 to 4, 6, 7, 8
+abbrev pub checkChecks : Graph → List ℕ → ℕ → List ℕ → List Rule
+checkChecks g units bound t = shape g (CheckUneven g units t) ++ (unitless g units ++ (cyclic (order g) ++ large-bound bound))
+
+-- lawful, or the first fault: an untimely operation (the lowest), a broken edge (the lowest), over-use (the earliest step, then the lowest type)
+unfoldable pub Finds : Graph → List ℕ → ℕ → List ℕ → finding.Finding → Type 0
+Finds g units bound t found.Lawful = Lawful g units bound t
+Finds g units bound t (found.Untimely i) = Lowest (fault.Untimely g bound t) (many g) i
+Finds g units bound t (found.Broken e) = None (fault.Untimely g bound t) (many g) × Lowest (fault.Broken g t) (edgesOf g) e
+Finds g units bound t (found.OverUse l k) = fault.Timely g bound t × fault.FirstOver g units t l k
+Finds g units bound t (found.Refused why) = Unit {0}
+
+-- what `check` answers
+pub record Checked (g : Graph) (units : List ℕ) (bound : ℕ) (t : List ℕ) (v : Verdict) : Type 0 where
+  pub first : First (checkChecks g units bound t) (refusalIn (v .finding))
+  pub finds : Finds g units bound t (v .finding)
+
+-- peak use's refusals: 1 to 4 and 7
+abbrev pub peakChecks : Graph → List ℕ → List Rule
+peakChecks g t = shape g (length t ≡ many g → ⊥) ++ cyclic (order g)
+
+-- the four numbers: each type's peak where answered, zeros where refused
+unfoldable pub Counts : Graph → List ℕ → Option (ℕ × ℕ) → List ℕ → Type 0
+Counts g t none counts = (k : ℕ) → k < limit.kinds → Peak g t k (at counts k)
+Counts g t (some why) counts = counts ≡ replicate limit.kinds 0
+
+-- what `peak_use` answers
+pub record PeakAnswer (g : Graph) (t : List ℕ) (p : Peaks) : Type 0 where
+  pub first : First (peakChecks g t) (refusalOf (p .answer))
+  pub long : length (p .counts) ≡ limit.kinds
+  pub counts : Counts g t (refusalOf (p .answer)) (p .counts)

@@ -1,0 +1,2 @@
+mod Latest
+mod Differing
