@@ -19,3 +19,7 @@ pub mod AnswerLaws
 pub mod FrameLaws
 pub mod ViewLaws
 pub mod LatencyLaws
+pub mod WalkLaws
+pub mod PlacingSteps
+pub mod PlacingLaws
+pub mod OrderLaws

@@ -1,0 +1,4 @@
+mod Later
+mod Scan
+mod Fill
+mod Rounds
