@@ -4,4 +4,5 @@ pub mod Rows
 pub mod Sum
 pub mod Count
 pub mod Lowest
+pub mod Search
 pub mod Words

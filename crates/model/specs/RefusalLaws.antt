@@ -7,7 +7,7 @@ use Prim.Native.Nat.{ℕ, zero, suc, _≤_, _<_}
 use native.Mathlib.Omega.{arith}
 use borrow.Author.Count.{below-none, below-more}
 use lib.ListN.{length}
-use Rattle.laws.specs.Cases.{same-or-not, le-or-lt, lt-or-le}
+use Rattle.laws.specs.Cases.{same-or-not}
 use Rattle.laws.specs.Rows.{at}
 use Rattle.laws.specs.Lowest.{None, Lowest, lowest-one}
 use Rattle.model.specs.Limits as limit
@@ -43,21 +43,26 @@ first-one (R ∷ rest) o (some r) (some s) a b =
     (λ h. ⊎-elim (λ k. absurd (h .0 (s .0) (s .1) k)) (λ k. first-one rest (o .1) (some r) (some s) (h .1) (k .1)) b)
     a
 
+-- number and place are fixed
 pub flat-one : (number : ℕ) (P : Type 0) → One (Flat number P)
 flat-one number P = record { same = λ n p m q a b. rw (a .is, a .nowhere, b .is, b .nowhere) }
 
+-- the number is fixed, and there is one lowest place at most
 pub at-lowest-one : (number among : ℕ) (P : ℕ → Type 0) → One (AtLowest number among P)
 at-lowest-one number among P = record { same = λ n p m q a b. rw (a .is, b .is, lowest-one P among p q (a .lowest) (b .lowest)) }
 
+-- rules of two lists in one
 pub ones-append : (front back : List Rule) → Ones front → Ones back → Ones (front ++ back)
 unfolding Ones
 ones-append [] back a b = b
 ones-append (R ∷ front) back a b = (a .0, ones-append front back (a .1) b)
 
+-- a list of one rule
 pub ones-single : (R : Rule) → One R → Ones (R ∷ [])
 unfolding Ones
 ones-single R o = (o, tt)
 
+-- each row of the table that `graph` checks says one thing at most
 pub shape-ones : (g : Graph) (Own : Type 0) → Ones (shape g Own)
 unfolding Ones
 shape-ones g Own = (
@@ -102,11 +107,14 @@ first-pass [] back x a b = b
 first-pass (R ∷ front) back x a b = first-silent R (front ++ back) x (a .0) (first-pass front back x (a .1) b)
 
 -- ---- taken apart
+
+-- both say nothing
 pub first-none-append : (front back : List Rule) → First (front ++ back) none → First front none × First back none
 unfolding First
 first-none-append [] back h = (tt, h)
 first-none-append (R ∷ front) back h = let k = first-none-append front back (h .1) in ((h .0, k .0), k .1)
 
+-- the front says it, or the front says nothing and the back says it
 pub first-some-append : (front back : List Rule) (r : ℕ × ℕ) → First (front ++ back) (some r)
     → First front (some r) ⊎ (First front none × First back (some r))
 unfolding First
@@ -133,6 +141,8 @@ first-rest R rest other none f h = (h .0, f (h .1))
 first-rest R rest other (some r) f h = ⊎-elim (λ k. inl k) (λ k. inr (k .0, f (k .1))) h
 
 -- ---- each kind of rule
+
+-- silent where P does not hold, and only there; it says its number and place 0 where P holds
 pub flat-silent : (number : ℕ) (P : Type 0) → (P → ⊥) → Silent (Flat number P)
 flat-silent number P not n p h = not (h .why)
 
@@ -142,6 +152,7 @@ flat-says number P why = record { is = refl; nowhere = refl; why = why }
 pub flat-not : (number : ℕ) (P : Type 0) → Silent (Flat number P) → P → ⊥
 flat-not number P s why = s number 0 (flat-says number P why)
 
+-- silent where no place has P, and only there; it says its number and the lowest place with P
 pub at-lowest-silent : (number among : ℕ) (P : ℕ → Type 0) → None P among → Silent (AtLowest number among P)
 at-lowest-silent number among P empty n p h = empty p (h .lowest .inside) (h .lowest .holds)
 
@@ -164,7 +175,7 @@ module _ (P : ℕ → Type 0) (n : ℕ) (no-lowest : (i : ℕ) → Lowest P n i 
 pub at-lowest-none : (number among : ℕ) (P : ℕ → Type 0) → Silent (AtLowest number among P) → None P among
 at-lowest-none number among P s = no-lowest-none P among (λ i low. s number i (at-lowest-says number among P i low))
 
--- ---- what is refused, the other way round
+-- ---- what keeps a graph from being refused
 pub not-large : {g : Graph} → many g ≤ limit.operations → edgesOf g ≤ limit.edges → g .kinds ≤ limit.kinds → Large g → ⊥
 not-large a b c (Large.operations l) = omega arith
 not-large a b c (Large.edges l) = omega arith
@@ -196,6 +207,45 @@ less h = omega arith
 equal : {a b : ℕ} → ((a ≡ b → ⊥) → ⊥) → a ≡ b
 equal {a} {b} h = ⊎-elim (λ e. e) (λ n. absurd (h n)) (same-or-not a b)
 
+-- rows that are not uneven match
+pub even-types : {g : Graph} {Own : Type 0} → (Uneven g Own → ⊥) → many g ≡ length (g .types)
+even-types even = equal (λ n. even (Uneven.types n))
+
+pub even-ends : {g : Graph} {Own : Type 0} → (Uneven g Own → ⊥) → edgesOf g ≡ length (g .to)
+even-ends even = equal (λ n. even (Uneven.ends n))
+
+-- which of them is given
+module _ (g : Graph) (Own : Type 0) where
+  pub large-says : Large g → First (shape g Own) (some (1, 0))
+  unfolding First
+  large-says h = inl (flat-says 1 (Large g) h)
+
+  module _ (small : Large g → ⊥) where
+    pub uneven-says : Uneven g Own → First (shape g Own) (some (2, 0))
+    unfolding First
+    uneven-says h = inr (flat-silent 1 _ small, inl (flat-says 2 _ h))
+
+    module _ (even : Uneven g Own → ⊥) where
+      pub operation-says : (i : ℕ) → Lowest (BadOperation g) (many g) i → First (shape g Own) (some (3, i))
+      unfolding First
+      operation-says i low = inr (flat-silent 1 _ small, inr (flat-silent 2 _ even, inl (at-lowest-says 3 _ _ i low)))
+
+      module _ (good : None (BadOperation g) (many g)) where
+        pub edge-says : (e : ℕ) → Lowest (BadEdge g) (edgesOf g) e → First (shape g Own) (some (4, e))
+        unfolding First
+        edge-says e low =
+            inr (
+              flat-silent 1 _ small,
+              inr (flat-silent 2 _ even, inr (at-lowest-silent 3 _ _ good, inl (at-lowest-says 4 _ _ e low))),
+            )
+
+        pub shape-silent : None (BadEdge g) (edgesOf g) → First (shape g Own) none
+        unfolding First
+        shape-silent inner = (
+          flat-silent 1 _ small,
+          (flat-silent 2 _ even, (at-lowest-silent 3 _ _ good, (at-lowest-silent 4 _ _ inner, tt))),
+        )
+
 -- where they say nothing, the graph is sound
 pub sound : (g : Graph) (Own : Type 0) → First (shape g Own) none → Sound g
 unfolding First
@@ -208,8 +258,8 @@ sound g Own h =
       few = at-most (λ l. small (Large.operations l));
       few-edges = at-most (λ l. small (Large.edges l));
       few-kinds = at-most (λ l. small (Large.kinds l));
-      even-types = equal (λ n. even (Uneven.types n));
-      even-ends = equal (λ n. even (Uneven.ends n));
+      even-types = even-types even;
+      even-ends = even-ends even;
       delay-from = λ i l. at-most (λ b. good i l (BadOperation.short b));
       delay-to = λ i l. at-most (λ b. good i l (BadOperation.long b));
       type-in = λ i l. less (λ b. good i l (BadOperation.kind b));
@@ -222,18 +272,41 @@ pub own-not : (g : Graph) (Own : Type 0) → First (shape g Own) none → Own �
 unfolding First
 own-not g Own h own = flat-not 2 (Uneven g Own) (h .1 .0) (Uneven.own own)
 
+-- the other rows are uneven, or the question's own are, in other words
 uneven-own : (g : Graph) {P Q : Type 0} → (P → Q) → Uneven g P → Uneven g Q
 uneven-own g f (Uneven.types n) = Uneven.types n
 uneven-own g f (Uneven.ends n) = Uneven.ends n
 uneven-own g f (Uneven.own p) = Uneven.own (f p)
 
+-- a reason in other words
 flat-same : {number : ℕ} {P Q : Type 0} → (P → Q) → (n p : ℕ) → Flat number P n p → Flat number Q n p
 flat-same f n p h = record { is = h .is; nowhere = h .nowhere; why = f (h .why) }
 
--- a mismatch of the question's own rows may be said in other words
-pub shape-own : (g : Graph) (P Q : Type 0) → (P → Q) → (Q → P) → (x : Option (ℕ × ℕ)) → First (shape g P) x → First (shape g Q) x
-shape-own g P Q there back x h =
+-- a mismatch of the question's own rows may be said in other words, whatever follows
+pub shape-own-then : (g : Graph) (P Q : Type 0) → (P → Q) → (Q → P) → (rest : List Rule) (x : Option (ℕ × ℕ))
+    → First (shape g P ++ rest) x → First (shape g Q ++ rest) x
+shape-own-then g P Q there back rest x h =
     first-rest _ _ _ x (first-head _ _ _ x (flat-same (uneven-own g there)) (flat-same (uneven-own g back))) h
+
+-- the same with nothing after it
+pub shape-own : (g : Graph) (P Q : Type 0) → (P → Q) → (Q → P) → (x : Option (ℕ × ℕ)) → First (shape g P) x → First (shape g Q) x
+shape-own g P Q there back x h = shape-own-then g P Q there back [] x h
+
+-- ---- the fifth and the sixth
+
+-- where the fifth says nothing, the output has room
+pub room-enough : (g : Graph) (room : ℕ) → First (output g room) none → many g ≤ room
+unfolding First
+room-enough g room h = at-most (flat-not 5 (room < many g) (h .0))
+
+-- where the sixth says nothing, each operation's type has a unit
+pub has-unit : (g : Graph) (units : List ℕ) → Sound g → First (unitless g units) none → (i : ℕ) → i < many g → 1 ≤ at units (typeOf g i)
+unfolding First
+has-unit g units s h i l =
+    less
+    (λ z.
+    at-lowest-none 6 (g .kinds) (NoUnit g units) (h .0) (typeOf g i) (s .type-in i l)
+    (record { none = omega arith; user = i; inside = l; uses = refl }))
 
 -- ---- which numbers are said
 
@@ -242,17 +315,20 @@ unfoldable pub Never : ℕ → List Rule → Type 0
 Never number [] = Unit {0}
 Never number (R ∷ rest) = ((place : ℕ) → R number place → ⊥) × Never number rest
 
+-- so it is not the number given
 pub first-never : (number : ℕ) (rules : List Rule) (r : ℕ × ℕ) → Never number rules → First rules (some r) → r .0 ≡ number → ⊥
 unfolding First Never
 first-never number [] r n h e = h
 first-never number (R ∷ rest) r n h e =
     ⊎-elim (λ k. n .0 (r .1) (subst (λ (m : ℕ). R m (r .1)) e k)) (λ k. first-never number rest r (n .1) (k .1) e) h
 
+-- nor do rules of two such lists
 pub never-append : (number : ℕ) (front back : List Rule) → Never number front → Never number back → Never number (front ++ back)
 unfolding Never
 never-append number [] back a b = b
 never-append number (R ∷ front) back a b = (a .0, never-append number front back (a .1) b)
 
+-- the rows say their own numbers alone
 pub shape-never : (g : Graph) (Own : Type 0) (number : ℕ) → 4 < number → Never number (shape g Own)
 unfolding Never
 shape-never g Own number l =
@@ -276,7 +352,14 @@ output-not-cycle g room r = first-never 7 (output g room) r (output-never g room
 pub unitless-not-cycle : (g : Graph) (units : List ℕ) (r : ℕ × ℕ) → First (unitless g units) (some r) → r .0 ≡ 7 → ⊥
 unitless-not-cycle g units r = first-never 7 (unitless g units) r (unitless-never g units 7 (omega arith))
 
+pub front-not-cycle : (g : Graph) (Own : Type 0) (room : ℕ) (r : ℕ × ℕ) → First (shape g Own ++ output g room) (some r) → r .0 ≡ 7 → ⊥
+front-not-cycle g Own room r =
+    first-never 7 (shape g Own ++ output g room) r
+    (never-append 7 (shape g Own) (output g room) (shape-never g Own 7 (omega arith)) (output-never g room 7 (omega arith)))
+
 -- ---- what precedence reads of a sound graph
+
+-- it has all that the definitions over an order lean on
 pub closed : (g : Graph) → Sound g → Closed (order g)
 closed g s = record {
   few = s .few;
@@ -287,6 +370,7 @@ closed g s = record {
   small = s .delay-to;
 }
 
+-- the other way round the same holds
 pub closed-turned : (o : Order) → Closed o → Closed (turned o)
 closed-turned o c = record {
   few = c .few;

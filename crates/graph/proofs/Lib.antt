@@ -1,0 +1,2 @@
+mod Unitless
+mod Filled

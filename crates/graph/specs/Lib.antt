@@ -1,0 +1,2 @@
+pub mod Lowered
+pub mod One
