@@ -74,6 +74,14 @@ row-refused : (o : Order) (before : List ℕ) (Given Other : List ℕ → Type 0
 unfolding RowAfter
 row-refused o before Given Other r after h = h
 
+-- refused is refused, whatever an answer would have given
+pub answered-again : (o : Order) (checks : List Rule) (before : List ℕ) (Given Other : List ℕ → Type 0) (r : ℕ × ℕ) (after : List ℕ)
+    → Answered o checks before Given (some r) after → Answered o checks before Other (some r) after
+answered-again o checks before Given Other r after h = record {
+  first = h .first;
+  row = row-refused o before Given Other r after (h .row);
+}
+
 -- refused by the first checks: refused, whatever follows
 pub answered-refused : (o : Order) (front back : List Rule) (before : List ℕ) (Given Other : List ℕ → Type 0) (r : ℕ × ℕ) (after : List ℕ)
     → Answered o front before Given (some r) after → Answered o (front ++ back) before Other (some r) after

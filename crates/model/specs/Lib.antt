@@ -23,3 +23,5 @@ pub mod WalkLaws
 pub mod PlacingSteps
 pub mod PlacingLaws
 pub mod OrderLaws
+pub mod CycleLaws
+pub mod TableAnswers

@@ -1,0 +1,3 @@
+pub mod Show
+pub mod Parts
+pub mod One

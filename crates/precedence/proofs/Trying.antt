@@ -1,0 +1,49 @@
+-- The two outcomes of `place`: all are placed, so that there is no cycle; or the rest is what a cycle reaches, and one is shown.
+use mathlib.Core.Path.{_≡_, refl}
+use mathlib.Core.Option.{Option, none, some}
+use mathlib.Core.List.{List, [], _∷_}
+use Prim.Native.Nat.{ℕ}
+use native.Mathlib.Omega.{arith}
+use Rattle.laws.specs.Rows.{at}
+use Rattle.model.specs.Order.{Order, size, Closed}
+use Rattle.model.specs.Placing.{Placing}
+use Rattle.model.specs.Tables.{Earliest}
+use Rattle.model.specs.Refusals.{CycleOf}
+use Rattle.model.specs.RefusalLaws.{first-says, first-silent, first-end}
+use Rattle.model.specs.FrameLaws.{row-given, row-cycle}
+use Rattle.model.specs.PlacingLaws.{placing-kept, placing-free, placing-done, placing-acyclic}
+use Rattle.model.specs.CycleLaws.{shown-cyclic}
+use Rattle.model.specs.declared.Answer.the-variants.{Done, Refused}
+use Rattle.model.specs.declared.Refusal.the-variants.{Cycle}
+use Rattle.cycle.specs.Show.{KeptAt, Shows}
+use Rattle.precedence.specs.Tried.{Tried}
+
+module _ {o : Order} {s : List ℕ} {placed : ℕ} (c : Closed o) (p : Placing o s placed) where
+  -- what is not placed is what a cycle reaches
+  pub kept-at : KeptAt o s
+  kept-at = record { zero = placing-kept c p; kept = placing-free c p }
+
+  pub tried-done : (before : List ℕ) → placed ≡ size o → Tried o before Done s before
+  tried-done before all = record {
+    answered = record {
+      first = first-silent (CycleOf o) [] none (λ n q h. placing-acyclic c p all (shown-cyclic (h .shown))) first-end;
+      row = row-given o before (λ a. a ≡ before) before refl;
+    };
+    placed = placed;
+    placing = p;
+    earliest = λ e. placing-done c p all;
+  }
+
+  pub tried-shown : {before after : List ℕ} {long : ℕ} → Shows o before after long → Tried o before (Refused (Cycle long)) s after
+  tried-shown {before} {after} {long} h = record {
+    answered = record {
+      first = first-says (CycleOf o) [] 7 long (record { is = refl; cycle = h .cycle; shown = h .shown; long = h .long });
+      row = row-cycle o before (λ a. a ≡ before) long after (record { cycle = h .cycle; shown = h .shown; written = h .written });
+    };
+    placed = placed;
+    placing = p;
+    earliest = λ e. absurd (some-is-none e);
+  }
+    where
+      some-is-none : {r : ℕ × ℕ} → some r ≡ none → ⊥
+      some-is-none e = let z : _≡_ {A = ℕ} 0 1 = cc in absurd (omega arith)
