@@ -1,0 +1,157 @@
+-- The common beginning of the tables: the checks of its parts, one after another, are the checks of the whole.
+use mathlib.Core.Path.{_≡_, refl, sym, subst, _∙_}
+use mathlib.Core.Bool.{true, false, true≢false}
+use mathlib.Core.Option.{Option, none, some}
+use mathlib.Core.List.{List, [], _∷_, _++_}
+use Prim.Native.Nat.{ℕ, _≤_, _<_}
+use native.Mathlib.Omega.{arith}
+use lib.ListN.{length}
+use Rattle.laws.specs.Cases.{lt-or-le}
+use Rattle.model.specs.Limits as limit
+use Rattle.model.specs.Order.{Order}
+use Rattle.model.specs.Graph.{Graph, order, many, Sound}
+use Rattle.model.specs.Tables.{Earliest, Latency, Within}
+use Rattle.model.specs.TableLaws.{earliest-one, latency-within, within-same}
+use Rattle.model.specs.LatencyLaws.{latency-one}
+use Rattle.model.specs.Refusals.{Rule, First, Late, shape, output, cyclic, large-bound, late-bound, asapChecks, alapChecks}
+use Rattle.model.specs.RefusalLaws.{first-none-append, first-pass, first-hit, first-says, first-silent, first-end, flat-says, flat-silent, shape-own-then, room-enough, sound, closed, Never, never-append, shape-never, output-never}
+use Rattle.model.specs.Answers.{refusalOf, numbered, Answered}
+use Rattle.model.specs.AnswerLaws.{first-told}
+use Rattle.model.specs.FrameLaws.{refused-stays, answered-refused, answered-passed, row-is, row-given}
+use Rattle.model.specs.TableAnswers.{large-bound-never, late-bound-never}
+use Rattle.model.specs.declared.Answer.{Answer}
+use Rattle.model.specs.declared.Answer.the-variants.{Done, Refused}
+use Rattle.model.specs.declared.Refusal.{Refusal}
+use Rattle.model.specs.declared.Refusal.the-variants.{BoundTooLarge, BoundTooSmall}
+use Rattle.precedence.specs.Tried.{Tried}
+use Rattle.tables.specs.Begun.{Begun, Bounded}
+
+-- an answer that refuses is no pass
+refused-passes : (why : Refusal) {P : Type 0} → refusalOf (Refused why) ≡ none → P
+refused-passes why e = let z : _≡_ {A = ℕ} 0 1 = cc in absurd (omega arith)
+
+-- the tables' first five rules
+abbrev front : Graph → List ℕ → List Rule
+front g before = shape g ⊥ ++ output g (length before)
+
+-- the bound's two rules
+abbrev back : Graph → ℕ → List Rule
+back g bound = large-bound bound ++ late-bound (order g) bound
+
+module _ (g : Graph) (before : List ℕ) where
+  front-never : Never 7 (front g before)
+  front-never =
+      never-append 7 (shape g ⊥) (output g (length before)) (shape-never g ⊥ 7 (omega arith)) (output-never g (length before) 7 (omega arith))
+
+  -- the tables have no rows of their own to match
+  bare : (x : Option (ℕ × ℕ)) → First (shape g (true ≡ false) ++ output g (length before)) x → First (front g before) x
+  bare x h = shape-own-then g (true ≡ false) ⊥ true≢false (λ e. absurd e) (output g (length before)) x h
+
+  module _ (a : Answer) (h : First (shape g (true ≡ false) ++ output g (length before)) (refusalOf a)) where
+    pub begun-refused : {why : Refusal} (s : List ℕ) → a ≡ Refused why → Begun g before (Refused why) s before
+    begun-refused {why} s e =
+        let first = bare (some (numbered why)) (first-told _ e h) in
+        record {
+          answered = answered-refused (order g) (front g before) (cyclic (order g)) before (λ r. r ≡ before) (λ r. r ≡ before) (numbered why) before
+              (refused-stays (order g) (front g before) before (λ r. r ≡ before) (numbered why) before front-never first refl);
+          sound = refused-passes why;
+          room = refused-passes why;
+          long = refused-passes why;
+          earliest = refused-passes why;
+        }
+
+    passed : a ≡ Done → First (front g before) none
+    passed e = bare none (first-told _ e h)
+
+    pub begun-sound : a ≡ Done → Sound g
+    begun-sound e = sound g ⊥ (first-none-append (shape g ⊥) (output g (length before)) (passed e) .0)
+
+    pub begun-room : a ≡ Done → many g ≤ length before
+    begun-room e = room-enough g (length before) (first-none-append (shape g ⊥) (output g (length before)) (passed e) .1)
+
+    pub begun-placed : {r : Answer} {s after : List ℕ} → a ≡ Done → Tried (order g) before r s after → Begun g before r s after
+    begun-placed {r} {s} {after} e t = record {
+      answered = answered-passed (order g) (front g before) (cyclic (order g)) before (λ r. r ≡ before) (refusalOf r) after (passed e) (t .answered);
+      sound = λ p. begun-sound e;
+      room = λ p. begun-room e;
+      long = λ p. t .placing .long;
+      earliest = t .earliest;
+    }
+
+-- the rest of what a refusal leaves
+module _ {g : Graph} (bound : ℕ) {before s after : List ℕ} {a : Answer} (h : Begun g before a s after) where
+  back-never : Never 7 (back g bound)
+  back-never =
+      never-append 7 (large-bound bound) (late-bound (order g) bound) (large-bound-never bound 7 (omega arith)) (late-bound-never (order g) bound 7 (omega arith))
+
+  refused : (why : Refusal) → Answered (order g) (alapChecks g bound (length before)) before (λ r. r ≡ before) (some (numbered why)) after
+      → Bounded g bound before (Refused why) s after
+  refused why x = record {
+    answered = x;
+    sound = refused-passes why;
+    room = refused-passes why;
+    long = refused-passes why;
+    earliest = refused-passes why;
+    low = refused-passes why;
+    within = refused-passes why;
+  }
+
+  told : {b : Answer} → a ≡ b → Begun g before b s after
+  told e = subst (λ (x : Answer). Begun g before x s after) e h
+
+  pub bounded-refused : {why : Refusal} → a ≡ Refused why → Bounded g bound before (Refused why) s after
+  bounded-refused {why} e =
+      refused why
+      (answered-refused (order g) (asapChecks g (length before)) (back g bound) before (λ r. r ≡ before) (λ r. r ≡ before) (numbered why) after (told e .answered))
+
+  module _ (e : a ≡ Done) where
+    kept : after ≡ before
+    kept = row-is (order g) before (λ r. r ≡ before) after (told e .answered .row)
+
+    -- the beginning passed, and the bound's rules decide
+    decided : (x : Option (ℕ × ℕ)) → Answered (order g) (back g bound) before (λ r. r ≡ before) x after
+        → Answered (order g) (alapChecks g bound (length before)) before (λ r. r ≡ before) x after
+    decided x k = answered-passed (order g) (asapChecks g (length before)) (back g bound) before (λ r. r ≡ before) x after (told e .answered .first) k
+
+    late : (why : Refusal) → First (back g bound) (some (numbered why)) → Bounded g bound before (Refused why) s after
+    late why f =
+        refused why
+        (decided (some (numbered why)) (refused-stays (order g) (back g bound) before (λ r. r ≡ before) (numbered why) after back-never f kept))
+
+    low-enough : bound ≤ limit.steps → First (large-bound bound) none
+    low-enough l = first-silent _ _ none (flat-silent 8 _ (λ b. absurd (omega arith))) first-end
+
+    pub bounded-large : limit.steps < bound → Bounded g bound before (Refused BoundTooLarge) s after
+    bounded-large l = late BoundTooLarge (first-hit (large-bound bound) _ _ (first-says _ _ 8 0 (flat-says 8 _ l)))
+
+    module _ {l : ℕ} (low : bound ≤ limit.steps) (ends : Latency (order g) s l) where
+      pub bounded-late : bound < l → Bounded g bound before (Refused BoundTooSmall) s after
+      bounded-late b =
+          late BoundTooSmall
+          (first-pass (large-bound bound) (late-bound (order g) bound) _ (low-enough low)
+          (first-says _ _ 9 0
+          (flat-says 9 _ (record { asap = s; latency = l; earliest = told e .earliest refl; ends = ends; below = b }))))
+
+      -- the latency of any earliest starts is that of these
+      none-late : l ≤ bound → Late (order g) bound → ⊥
+      none-late up x =
+          let closed-order = closed g (told e .sound refl) in
+          let same = earliest-one (order g) s (x .asap) (told e .earliest refl) (x .earliest) in
+          let inside = within-same (order g) closed-order s (x .asap) same bound (latency-within (order g) s l bound ends up) in
+          absurd (omega (arith, x .below, x .ends .least bound inside))
+
+      pub bounded-done : l ≤ bound → Bounded g bound before Done s after
+      bounded-done up = record {
+        answered = decided none
+            (record {
+              first = first-pass (large-bound bound) (late-bound (order g) bound) none (low-enough low)
+                  (first-silent _ _ none (flat-silent 9 _ (none-late up)) first-end);
+              row = row-given (order g) before (λ r. r ≡ before) after kept;
+            });
+        sound = λ p. told e .sound refl;
+        room = λ p. told e .room refl;
+        long = λ p. told e .long refl;
+        earliest = λ p. told e .earliest refl;
+        low = λ p. low;
+        within = λ p. latency-within (order g) s l bound ends up;
+      }

@@ -1,0 +1,148 @@
+// The tables of a graph: earliest starts, latest starts, mobility.
+use model::Answer;
+use model::Refusal;
+use model::limits::OPERATIONS;
+use model::limits::STEPS;
+ghost use Prim.Native.Nat.{_≤_};
+ghost use lib.ListN.{length};
+ghost use Rattle.model.specs.Limits as limit;
+ghost use Rattle.model.specs.Order.{ordered, Closed};
+ghost use Rattle.model.specs.Graph.{lent};
+ghost use Rattle.model.specs.Answers.{AsapAnswer, AlapAnswer, MobilityAnswer};
+ghost use Rattle.tables.specs.Begun.{Begun, Bounded, Room, LatestRow};
+
+// Refusals 1 to 5 and 7, and the earliest starts. A cycle is shown in `out`; any other refusal leaves it, and so does a pass.
+fn begin(
+    delays: &[u8],
+    types: &[u8],
+    kinds: usize,
+    from: &[u16],
+    to: &[u16],
+    starts: &mut [u16; OPERATIONS],
+    out: &mut [u16],
+) -> Answer
+    ensures { λ r. ⌜ Begun (lent (now (delays .entry)) (now (types .entry)) kinds (now (from .entry)) (now (to .entry))) (now (out .entry)) r (now (starts .exit)) (now (out .exit)) ⌝ }
+{
+    let fault = graph::front(delays, types, kinds, from, to, true, out.len());
+    match fault {
+        Answer::Refused(why) => Answer::Refused(why),
+        Answer::Done => precedence::place(delays, from, to, starts, out),
+    }
+}
+
+// Refusals 1 to 5 and 7 to 9, and the earliest starts.
+fn begin_within(
+    delays: &[u8],
+    types: &[u8],
+    kinds: usize,
+    from: &[u16],
+    to: &[u16],
+    bound: usize,
+    starts: &mut [u16; OPERATIONS],
+    out: &mut [u16],
+) -> Answer
+    ensures { λ r. ⌜ Bounded (lent (now (delays .entry)) (now (types .entry)) kinds (now (from .entry)) (now (to .entry))) bound (now (out .entry)) r (now (starts .exit)) (now (out .exit)) ⌝ }
+{
+    let begun = begin(delays, types, kinds, from, to, starts, out);
+    match begun {
+        Answer::Refused(why) => Answer::Refused(why),
+        Answer::Done => {
+            if STEPS < bound {
+                return Answer::Refused(Refusal::BoundTooLarge);
+            }
+            if bound < rows::latency(delays, starts) {
+                return Answer::Refused(Refusal::BoundTooSmall);
+            }
+            Answer::Done
+        }
+    }
+}
+
+// The latest starts within a bound that leaves room for some: the earliest of the order turned round, read from the bound backwards.
+pub fn latest(delays: &[u8], from: &[u16], to: &[u16], bound: usize) -> [u16; OPERATIONS]
+    requires { ⌜ Closed (ordered (now delays) (now from) (now to)) ⌝ }
+    requires { ⌜ bound ≤ limit.steps ⌝ }
+    requires { ⌜ Room (ordered (now delays) (now from) (now to)) bound ⌝ }
+    ensures { λ r. ⌜ LatestRow (ordered (now (delays .entry)) (now (from .entry)) (now (to .entry))) bound r ⌝ }
+{
+    let mut turned = [0u16; OPERATIONS];
+    earliest::earliest(delays, to, from, &mut turned);
+    let mut starts = [0u16; OPERATIONS];
+    let mut i = 0;
+    while i < delays.len() {
+        starts[i] = (bound + 2 - delays[i] as usize - turned[i] as usize) as u16;
+        i += 1;
+    }
+    starts
+}
+
+// The ASAP starts.
+pub fn asap(
+    delays: &[u8],
+    types: &[u8],
+    kinds: usize,
+    from: &[u16],
+    to: &[u16],
+    out: &mut [u16],
+) -> Answer
+    ensures { λ r. ⌜ AsapAnswer (lent (now (delays .entry)) (now (types .entry)) kinds (now (from .entry)) (now (to .entry))) (now (out .entry)) r (now (out .exit)) ⌝ }
+{
+    let mut starts = [0u16; OPERATIONS];
+    let begun = begin(delays, types, kinds, from, to, &mut starts, out);
+    match begun {
+        Answer::Refused(why) => Answer::Refused(why),
+        Answer::Done => {
+            graph::fill(&starts, delays.len(), out);
+            Answer::Done
+        }
+    }
+}
+
+// The ALAP starts within a bound.
+pub fn alap(
+    delays: &[u8],
+    types: &[u8],
+    kinds: usize,
+    from: &[u16],
+    to: &[u16],
+    bound: usize,
+    out: &mut [u16],
+) -> Answer
+    ensures { λ r. ⌜ AlapAnswer (lent (now (delays .entry)) (now (types .entry)) kinds (now (from .entry)) (now (to .entry))) bound (now (out .entry)) r (now (out .exit)) ⌝ }
+{
+    let mut starts = [0u16; OPERATIONS];
+    let begun = begin_within(delays, types, kinds, from, to, bound, &mut starts, out);
+    match begun {
+        Answer::Refused(why) => Answer::Refused(why),
+        Answer::Done => {
+            let late = latest(delays, from, to, bound);
+            graph::fill(&late, delays.len(), out);
+            Answer::Done
+        }
+    }
+}
+
+// The mobility within a bound: ALAP less ASAP.
+pub fn mobility(
+    delays: &[u8],
+    types: &[u8],
+    kinds: usize,
+    from: &[u16],
+    to: &[u16],
+    bound: usize,
+    out: &mut [u16],
+) -> Answer
+    ensures { λ r. ⌜ MobilityAnswer (lent (now (delays .entry)) (now (types .entry)) kinds (now (from .entry)) (now (to .entry))) bound (now (out .entry)) r (now (out .exit)) ⌝ }
+{
+    let mut starts = [0u16; OPERATIONS];
+    let begun = begin_within(delays, types, kinds, from, to, bound, &mut starts, out);
+    match begun {
+        Answer::Refused(why) => Answer::Refused(why),
+        Answer::Done => {
+            let late = latest(delays, from, to, bound);
+            let spread = rows::differences(&late, &starts, delays.len());
+            graph::fill(&spread, delays.len(), out);
+            Answer::Done
+        }
+    }
+}
