@@ -1,0 +1,59 @@
+-- `row` ends: what is left of the entries falls with each turn.
+use Prim.Native.Nat.{ℕ, _+_, _-_, _≤_, _<_}
+use borrow.Author.Needs.{needs}
+use lib.ListN.{length}
+use Rattle.worked.proofs.say.row.Statement.{statement}
+use Rattle.worked.proofs.say.row.Tie as tie
+
+abbrev Inv-loop : tie.InvT-loop
+Inv-loop entries n between i₀ i = i ≤ length entries
+
+abbrev μ-loop : tie.MeasureT-loop
+μ-loop entries n between i₀ i = length entries - i
+
+loop-holds : tie.Need-loop-holds Inv-loop μ-loop
+loop-holds c = search needs
+
+returns : tie.Need-returns Inv-loop μ-loop
+returns c = search needs
+
+text-requires : tie.Need-text-requires Inv-loop μ-loop
+text-requires c κs = search needs
+
+mul-entry : tie.Need-mul-entry Inv-loop μ-loop
+mul-entry c = search needs
+
+shared-slice-read-entry : tie.Need-shared-slice-read-entry Inv-loop μ-loop
+shared-slice-read-entry c = search needs
+
+entry-requires : tie.Need-entry-requires Inv-loop μ-loop
+entry-requires c κs = search needs
+
+add-i : tie.Need-add-i Inv-loop μ-loop
+add-i c = search needs
+
+loop-less : tie.Need-loop-less Inv-loop μ-loop
+loop-less c = search needs
+
+loop-again : tie.Need-loop-again Inv-loop μ-loop
+loop-again c = search needs
+
+returns-2 : tie.Need-returns-2 Inv-loop μ-loop
+returns-2 c = search needs
+
+pub row-spec : {M : Type 1} → statement M
+row-spec =
+    tie.close
+    (tie.spec
+    Inv-loop
+    μ-loop
+    loop-holds
+    returns
+    text-requires
+    mul-entry
+    shared-slice-read-entry
+    entry-requires
+    add-i
+    loop-less
+    loop-again
+    returns-2)
