@@ -25,3 +25,4 @@ pub mod PlacingLaws
 pub mod OrderLaws
 pub mod CycleLaws
 pub mod TableAnswers
+pub mod Theorems
