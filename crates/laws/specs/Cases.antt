@@ -1,5 +1,5 @@
 -- How two numbers lie to each other, and what a test tells: the case splits that every proof leans on.
-use mathlib.Core.Path.{_≡_, refl, sym}
+use mathlib.Core.Path.{_≡_, refl, sym, _∙_}
 use mathlib.Core.Logic.{_⊎_, inl, inr}
 use mathlib.Core.Bool.{Bool, true, false, true≢false, false≢true}
 use Prim.Native.Nat.{ℕ, _≤_, _<_}
@@ -37,3 +37,7 @@ tells-one true true a b = refl
 tells-one true false a b = absurd (b .none refl (a .yes refl))
 tells-one false true a b = absurd (a .none refl (b .yes refl))
 tells-one false false a b = refl
+
+-- an equation leaves one value
+pub equation-one : {A : Type 0} {x a b : A} → a ≡ x → b ≡ x → a ≡ b
+equation-one p q = p ∙ sym q

@@ -60,6 +60,14 @@ count-yes p n e = omega (arith, sum-step (λ i. bit (p i)) n, ap bit e)
 pub count-no : (p : ℕ → Bool) (n : ℕ) → p n ≡ false → count p (n + 1) ≡ count p n
 count-no p n e = omega (arith, sum-step (λ i. bit (p i)) n, ap bit e)
 
+-- one more number is looked at
+pub count-step : (p : ℕ → Bool) (n : ℕ) → count p (n + 1) ≡ count p n + bit (p n)
+count-step p n = omega (arith, sum-step (λ i. bit (p i)) n)
+
+-- nothing is counted below 0
+pub count-start : (p : ℕ → Bool) → count p 0 ≡ 0
+count-start p = count-none p 0 (λ i l. absurd (omega arith))
+
 -- ---- marks: how many of a row's first n entries are not 0
 abbrev pub marks : List ℕ → ℕ → ℕ
 marks row n = count (λ i. ltb 0 (at row i)) n

@@ -6,3 +6,7 @@ pub mod Count
 pub mod Lowest
 pub mod Search
 pub mod Words
+pub mod Counting
+pub mod Greatest
+pub mod TellLaws
+pub mod WordLaws

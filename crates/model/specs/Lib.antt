@@ -25,4 +25,16 @@ pub mod PlacingLaws
 pub mod OrderLaws
 pub mod CycleLaws
 pub mod TableAnswers
+pub mod UseLaws
+pub mod VerdictLaws
+pub mod LabelLaws
+pub mod RuleLaws
+pub mod Sequential
+pub mod Reached
+pub mod Progress
+pub mod ListLaws
+pub mod ScheduleLaws
+pub mod LawfulLaws
+pub mod ListingLaws
+pub mod ListingCases
 pub mod Theorems

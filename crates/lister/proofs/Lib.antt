@@ -1,0 +1,7 @@
+mod Counting
+mod Turns
+mod Whole
+mod Product
+mod Beginning
+mod Bounding
+mod Asking

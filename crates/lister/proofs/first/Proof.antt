@@ -1,0 +1,31 @@
+-- `lister::first` meets its contract: it asks after no row.
+use Prim.Native.Nat.{ℕ, _+_, _-_, _≤_, _<_}
+use mathlib.Core.Path.{_≡_}
+use mathlib.Core.Logic.{⊎-elim}
+use native.Mathlib.Omega.{arith}
+use lib.ListN.{length}
+use borrow.Author.Needs.{needs}
+use Rattle.lister.specs.Asking.{askedOf}
+use Rattle.lister.proofs.Asking.{matched-first}
+use Rattle.lister.proofs.first.Statement.{statement}
+use Rattle.lister.proofs.first.Tie as tie
+
+even-requires : tie.Need-even-requires
+even-requires c κs = search needs
+
+slice-aggregate-ask : tie.Need-slice-aggregate-ask
+slice-aggregate-ask c = search needs
+
+ask-requires : tie.Need-ask-requires
+ask-requires c κs = matched-first _ _ _ (omega arith) (c .before .before .even .ensures)
+
+same-length : tie.Need-same-length
+same-length c = search needs
+
+returns : tie.Need-returns
+unfolding askedOf
+returns c = c .before .before .ask .ensures
+
+pub first-spec : {M : Type 1} → statement M
+first-spec =
+    tie.close (tie.spec even-requires slice-aggregate-ask ask-requires same-length returns)

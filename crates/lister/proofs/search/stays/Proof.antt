@@ -1,0 +1,23 @@
+-- `search::stays` meets its contract: a row stays tight only where it was, and the start is the entry of the row asked after.
+use Prim.Native.Nat.{ℕ, _+_, _-_, _≤_, _<_}
+use mathlib.Core.Path.{_≡_}
+use mathlib.Core.Logic.{⊎-elim}
+use native.Mathlib.Omega.{arith}
+use borrow.Author.Needs.{needs}
+use lib.ListN.{length}
+use mathlib.Core.Path.{refl}
+use Rattle.laws.specs.Tests.{clash}
+use Rattle.lister.proofs.search.stays.Statement.{statement}
+use Rattle.lister.proofs.search.stays.Tie as tie
+
+returns : tie.Need-returns
+returns c = record { was = λ e. c .before .if1 .taken; same = λ e. c .if2 .taken; apart = λ e. absurd (clash refl e) }
+
+returns-2 : tie.Need-returns-2
+returns-2 c = record { was = λ e. absurd (clash e refl); same = λ e. absurd (clash e refl); apart = λ e on. c .if2 .left }
+
+returns-3 : tie.Need-returns-3
+returns-3 c = record { was = λ e. absurd (clash e refl); same = λ e. absurd (clash e refl); apart = λ e on. absurd (clash on (c .if1 .left)) }
+
+pub stays-spec : {M : Type 1} → statement M
+stays-spec = tie.close (tie.spec returns returns-2 returns-3)

@@ -1,0 +1,34 @@
+-- Where an operation may stand, given those before it: its edges to them are kept, and its type's units are enough while it runs.
+use mathlib.Core.Path.{_≡_}
+use mathlib.Core.List.{List, []}
+use Prim.Native.Nat.{ℕ, _+_, _<_, _≤_}
+use lib.ListN.{length}
+use Rattle.laws.specs.Rows.{at}
+use Rattle.model.specs.Graph.{Graph, edgesOf}
+use Rattle.model.specs.LawfulLaws.{runningFirst}
+
+-- edge e is kept, if both its ends are at most i
+pub record EdgeKept (delays from to t : List ℕ) (i e : ℕ) : Type 0 where
+  pub kept : at from e ≤ i → at to e ≤ i → at t (at from e) + at delays (at from e) ≤ at t (at to e)
+
+-- what unit use reads of a graph
+abbrev pub users : List ℕ → List ℕ → Graph
+users busy types = record { delays = []; busy = busy; types = types; kinds = 0; from = []; to = [] }
+
+-- how many of the first m operations are of type k and running at step l
+abbrev pub inUse : List ℕ → List ℕ → List ℕ → ℕ → ℕ → ℕ → ℕ
+inUse busy types t k l m = runningFirst (users busy types) t m k l
+
+-- the units of i's type are enough, with those before it, where j of that type starts after i and within i's run
+pub record Calm (busy types units t : List ℕ) (i j : ℕ) : Type 0 where
+  pub calm : at types j ≡ at types i → at t i < at t j → at t j < at t i + at busy i
+      → inUse busy types t (at types i) (at t j) (i + 1) ≤ at units (at types i)
+
+-- they are enough all the while that i runs
+pub record Room (busy types units t : List ℕ) (i : ℕ) : Type 0 where
+  pub enough : (l : ℕ) → at t i ≤ l → l < at t i + at busy i → inUse busy types t (at types i) l (i + 1) ≤ at units (at types i)
+
+-- operation i stands where it may, given those before it
+pub record Fits (g : Graph) (units t : List ℕ) (i : ℕ) : Type 0 where
+  pub edges : (e : ℕ) → e < edgesOf g → EdgeKept (g .delays) (g .from) (g .to) t i e
+  pub room : Room (g .busy) (g .types) units t i

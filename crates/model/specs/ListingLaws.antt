@@ -1,0 +1,220 @@
+-- Demand 3: from first, asking each time for the next, gives the definition's list: each lawful schedule once, rising, and none left exactly when none is left.
+-- And each question has one answer.
+use mathlib.Core.Path.{_≡_, refl, sym, ap, subst, _∙_}
+use mathlib.Core.Logic.{_⊎_, inl, inr, ⊎-elim}
+use mathlib.Core.Option.{Option, none, some}
+use mathlib.Core.List.{List, [], _∷_, _++_, List·Memᴰ·head, List·Memᴰ·tail, List·Memᴰ·not-nil, List·Memᴰ·cases-cons}
+use Prim.Native.Nat.{ℕ, _<_}
+use native.Mathlib.Omega.{arith}
+use lib.ListN.{length}
+use Rattle.laws.specs.TellLaws.{tells-true}
+use Rattle.laws.specs.Words.{Before, words, keep}
+use Rattle.laws.specs.WordLaws.{Among, Rising, rising-head, rising-tail, compare, same-list, before-not-self, before-not-after, before-trans, words-in, words-all, words-rising, keep-in, keep-all, keep-rising, isBefore, is-before}
+use Rattle.model.specs.Graph.{Graph, order, many, Sound}
+use Rattle.model.specs.Use.{Lawful}
+use Rattle.model.specs.Refusals.{Rule, shape, output, unitless, cyclic, large-bound, late-bound}
+use Rattle.model.specs.RefusalLaws.{Ones, first-one, flat-one, ones-single, ones-append, shape-ones, output-ones, unitless-ones}
+use Rattle.model.specs.Answers.{numbered, RowAfter}
+use Rattle.model.specs.AnswerLaws.{numbered-one}
+use Rattle.model.specs.CycleLaws.{shown-one}
+use Rattle.model.specs.FrameLaws.{answered-one, answered-again, fills-one}
+use Rattle.model.specs.TableAnswers.{cyclic-ones, large-bound-ones, late-bound-ones}
+use Rattle.model.specs.LawfulLaws.{is-lawful, lawful-word}
+use Rattle.model.specs.Listing.{isLawful, allLawful, Later, Least, NoneLeft, ManyWindows, ListerUneven, listerChecks, refusalIn, Ended, Gives, ListerAnswer, Asked, AskedAll}
+use Rattle.model.specs.declared.Listed.{Listed}
+use Rattle.model.specs.declared.Listed.the-variants as answers
+
+module _ (g : Graph) (units : List ℕ) (bound : ℕ) where
+  -- ---- one answer
+  -- there is one least schedule at most
+  pub least-one : (asked : Option (List ℕ)) (t u : List ℕ) → Least g units bound asked t → Least g units bound asked u → t ≡ u
+  least-one asked t u a b =
+      ⊎-elim
+      (λ x. absurd (b .none-between t (a .lawful) (a .later) x))
+      (λ y.
+      ⊎-elim
+      (λ s. same-list (a .lawful .long) (b .lawful .long) s)
+      (λ x. absurd (a .none-between u (b .lawful) (b .later) x))
+      y)
+      (compare (many g) t u)
+
+  -- where there is one, one is left
+  pub least-left : (asked : Option (List ℕ)) (t : List ℕ) → Least g units bound asked t → NoneLeft g units bound asked → ⊥
+  least-left asked t a n = n .none-later t (a .lawful) (a .later)
+
+  -- asking gives one list
+  asked-one : {t : List ℕ} {rows : List (List ℕ)} → Asked g units bound t rows → (more : List (List ℕ)) → Asked g units bound t more → rows ≡ more
+  asked-one (Asked.last n) more (Asked.last m) = refl
+  asked-one (Asked.last n) more (Asked.then {u = u} l s) = absurd (least-left _ u l n)
+  asked-one (Asked.then {u = u} l r) more (Asked.last n) = absurd (least-left _ u l n)
+  asked-one (Asked.then {t = t} {u = u} l r) more (Asked.then {u = v} {rows = rest} k s) =
+      ap (λ (rows : List (List ℕ)). t ∷ rows)
+      (asked-one r rest
+      (subst (λ (w : List ℕ). Asked g units bound w rest) (least-one (some t) v u k l) s))
+
+  pub asked-all-one : (rows more : List (List ℕ)) → AskedAll g units bound rows → AskedAll g units bound more → rows ≡ more
+  asked-all-one rows more (AskedAll.nothing n) (AskedAll.nothing m) = refl
+  asked-all-one rows more (AskedAll.nothing n) (AskedAll.from {t = t} l s) = absurd (least-left none t l n)
+  asked-all-one rows more (AskedAll.from {t = t} l r) (AskedAll.nothing n) = absurd (least-left none t l n)
+  asked-all-one rows more (AskedAll.from {t = t} l r) (AskedAll.from {t = v} k s) =
+      asked-one r more (subst (λ (w : List ℕ). Asked g units bound w more) (least-one none v t k l) s)
+
+-- ---- demand 3
+module _ (g : Graph) (sound : Sound g) (units : List ℕ) (bound : ℕ) where
+  -- the definition's list has the lawful schedules and no other row
+  pub listed-lawful : (t : List ℕ) → Among t (allLawful g units bound) → Lawful g units bound t
+  listed-lawful t m =
+      let kept = keep-in (isLawful g units bound) (words (many g) bound) t m in
+      let word = words-in (many g) bound t (kept .inside) in
+      is-lawful g sound units bound t (word .long) .yes (kept .pass)
+
+  pub lawful-listed : (t : List ℕ) → Lawful g units bound t → Among t (allLawful g units bound)
+  lawful-listed t h =
+      keep-all (isLawful g units bound) (words (many g) bound) t
+      (words-all (many g) bound t (lawful-word g sound units bound t h))
+      (tells-true (is-lawful g sound units bound t (h .long)) h)
+
+  -- in increasing order, each once
+  pub listed-rising : Rising (many g) (allLawful g units bound)
+  listed-rising = keep-rising (isLawful g units bound) (words (many g) bound) (words-rising (many g) bound)
+
+  -- from t on, asking gives what stands behind it
+  asked-from : (t : List ℕ) (rows : List (List ℕ)) → Rising (many g) (t ∷ rows)
+      → ((u : List ℕ) → Among u rows → Lawful g units bound u)
+      → ((u : List ℕ) → Lawful g units bound u → Before (many g) t u → Among u rows)
+      → Asked g units bound t (t ∷ rows)
+  unfolding Later
+  asked-from t [] rise lawful all = Asked.last (record { none-later = λ u h b. absurd (List·Memᴰ·not-nil (all u h b)) })
+  asked-from t (v ∷ rows) rise lawful all =
+      let behind = rising-tail rise in
+      Asked.then
+      (record {
+        lawful = lawful v (List·Memᴰ·head refl);
+        later = rising-head rise v (List·Memᴰ·head refl);
+        none-between = λ u h b c.
+            ⊎-elim
+            (λ e. before-not-self v (subst (λ (w : List ℕ). Before (many g) w v) e c))
+            (λ m. before-not-after c (rising-head behind u m))
+            (List·Memᴰ·cases-cons (all u h b));
+      })
+      (asked-from v rows behind (λ u m. lawful u (List·Memᴰ·tail m))
+      (λ u h b.
+      ⊎-elim
+      (λ e. absurd (before-not-self v (subst (λ (w : List ℕ). Before (many g) v w) e b)))
+      (λ m. m)
+      (List·Memᴰ·cases-cons (all u h (before-trans (rising-head rise v (List·Memᴰ·head refl)) b)))))
+
+  asked-rows : (rows : List (List ℕ)) → Rising (many g) rows → ((u : List ℕ) → Among u rows → Lawful g units bound u)
+      → ((u : List ℕ) → Lawful g units bound u → Among u rows) → AskedAll g units bound rows
+  unfolding Later
+  asked-rows [] rise lawful all = AskedAll.nothing (record { none-later = λ u h b. absurd (List·Memᴰ·not-nil (all u h)) })
+  asked-rows (t ∷ rows) rise lawful all =
+      AskedAll.from
+      (record {
+        lawful = lawful t (List·Memᴰ·head refl);
+        later = tt;
+        none-between = λ u h b c.
+            ⊎-elim
+            (λ e. before-not-self t (subst (λ (w : List ℕ). Before (many g) w t) e c))
+            (λ m. before-not-after c (rising-head rise u m))
+            (List·Memᴰ·cases-cons (all u h));
+      })
+      (asked-from t rows rise (λ u m. lawful u (List·Memᴰ·tail m))
+      (λ u h b.
+      ⊎-elim
+      (λ e. absurd (before-not-self t (subst (λ (w : List ℕ). Before (many g) t w) e b)))
+      (λ m. m)
+      (List·Memᴰ·cases-cons (all u h))))
+
+  -- from first, asking each time for the next until none is left, gives the definition's list
+  pub asked-all : AskedAll g units bound (allLawful g units bound)
+  asked-all = asked-rows (allLawful g units bound) listed-rising listed-lawful lawful-listed
+
+  -- and no other list
+  pub asked-is : (rows : List (List ℕ)) → AskedAll g units bound rows → rows ≡ allLawful g units bound
+  asked-is rows a = asked-all-one g units bound rows (allLawful g units bound) a asked-all
+
+-- ---- from any row of n numbers: the first of the definition's list that comes after it
+unfoldable pub Gets : Graph → List ℕ → ℕ → List ℕ → List (List ℕ) → Type 0
+Gets g units bound row [] = NoneLeft g units bound (some row)
+Gets g units bound row (t ∷ rest) = Least g units bound (some row) t
+
+module _ (g : Graph) (sound : Sound g) (units : List ℕ) (bound : ℕ) (row : List ℕ) (long : length row ≡ many g) where
+  gets : (rows : List (List ℕ)) → Rising (many g) rows → ((u : List ℕ) → Among u rows → Lawful g units bound u × Before (many g) row u)
+      → ((u : List ℕ) → Lawful g units bound u → Before (many g) row u → Among u rows) → Gets g units bound row rows
+  unfolding Gets Later
+  gets [] rise are all = record { none-later = λ u h b. absurd (List·Memᴰ·not-nil (all u h b)) }
+  gets (t ∷ rows) rise are all = record {
+    lawful = are t (List·Memᴰ·head refl) .0;
+    later = are t (List·Memᴰ·head refl) .1;
+    none-between = λ u h b c.
+        ⊎-elim
+        (λ e. before-not-self t (subst (λ (w : List ℕ). Before (many g) w t) e c))
+        (λ m. before-not-after c (rising-head rise u m))
+        (List·Memᴰ·cases-cons (all u h b));
+  }
+
+  pub next-gets : Gets g units bound row (keep (isBefore row) (allLawful g units bound))
+  next-gets =
+      gets _ (keep-rising (isBefore row) _ (listed-rising g sound units bound))
+      (λ u m.
+      let kept = keep-in (isBefore row) (allLawful g units bound) u m in
+      let lawful = listed-lawful g sound units bound u (kept .inside) in
+      (lawful, is-before (many g) row u long (lawful .long) .yes (kept .pass)))
+      (λ u h b.
+      keep-all (isBefore row) (allLawful g units bound) u (lawful-listed g sound units bound u h)
+      (tells-true (is-before (many g) row u long (h .long)) b))
+
+-- ---- the lister's question has one answer
+lister-ones : (g : Graph) (units : List ℕ) (bound : ℕ) (asked : Option (List ℕ)) (room : ℕ) → Ones (listerChecks g units bound asked room)
+lister-ones g units bound asked room =
+    ones-append _ _
+    (ones-append _ _
+    (ones-append _ _ (ones-append _ _ (shape-ones g (ListerUneven g units asked)) (output-ones g room)) (unitless-ones g units))
+    (cyclic-ones (order g)))
+    (ones-append _ _ (ones-append _ _ (large-bound-ones bound) (late-bound-ones (order g) bound))
+    (ones-single _ (flat-one 10 (ManyWindows g bound))))
+
+none-some : {r : ℕ × ℕ} → _≡_ {A = Option (ℕ × ℕ)} none (some r) → ⊥
+none-some e = let z : _≡_ {A = ℕ} 0 1 = cc in omega arith
+
+some-one : {r s : ℕ × ℕ} → _≡_ {A = Option (ℕ × ℕ)} (some r) (some s) → r ≡ s
+some-one e = cc
+
+module _ (g : Graph) (units : List ℕ) (bound : ℕ) (asked : Option (List ℕ)) (out : List ℕ) where
+  abbrev checks : List Rule
+  checks = listerChecks g units bound asked (length out)
+
+  ones : Ones checks
+  ones = lister-ones g units bound asked (length out)
+
+  same-answer : (r s : Listed) (a b : List ℕ) → refusalIn r ≡ refusalIn s → ListerAnswer g units bound asked out r a → ListerAnswer g units bound asked out s b → r ≡ s
+  unfolding RowAfter Gives
+  same-answer answers.Found answers.Found a b e x y = refl
+  same-answer answers.Found answers.NoneLeft a b e x y = absurd (least-left g units bound asked _ (x .row .is) (y .row .none))
+  same-answer answers.Found (answers.Refused w) a b e x y = absurd (none-some e)
+  same-answer answers.NoneLeft answers.Found a b e x y = absurd (least-left g units bound asked _ (y .row .is) (x .row .none))
+  same-answer answers.NoneLeft answers.NoneLeft a b e x y = refl
+  same-answer answers.NoneLeft (answers.Refused w) a b e x y = absurd (none-some e)
+  same-answer (answers.Refused v) answers.Found a b e x y = absurd (none-some (sym e))
+  same-answer (answers.Refused v) answers.NoneLeft a b e x y = absurd (none-some (sym e))
+  same-answer (answers.Refused v) (answers.Refused w) a b e x y = ap answers.Refused (numbered-one v w (some-one e))
+
+  rows-one : (r : Listed) (a b : List ℕ) → ListerAnswer g units bound asked out r a → ListerAnswer g units bound asked out r b → a ≡ b
+  unfolding Gives
+  rows-one answers.Found a b x y =
+      answered-one (order g) checks out _ ones (shown-one (order g)) none none a b (fills-one _ out a b (least-one g units bound asked)) x y .1
+  rows-one answers.NoneLeft a b x y =
+      answered-one (order g) checks out _ ones (shown-one (order g)) none none a b (λ p q. p .kept ∙ sym (q .kept)) x y .1
+  rows-one (answers.Refused w) a b x y =
+      answered-one (order g) checks out (λ row. row ≡ out) ones (shown-one (order g)) (some (numbered w)) (some (numbered w)) a b (λ p q. p ∙ sym q)
+      (answered-again (order g) checks out _ (λ row. row ≡ out) (numbered w) a x)
+      (answered-again (order g) checks out _ (λ row. row ≡ out) (numbered w) b y)
+      .1
+
+  -- any two outcomes that the contract of `first` or `next` allows are equal
+  pub lister-answer-one : (r s : Listed) (a b : List ℕ) → ListerAnswer g units bound asked out r a → ListerAnswer g units bound asked out s b → (r ≡ s) × (a ≡ b)
+  lister-answer-one r s a b x y =
+      let refusals = first-one checks ones (refusalIn r) (refusalIn s) (x .first) (y .first) in
+      let same = same-answer r s a b refusals x y in
+      (same, rows-one r a b x (subst (λ (q : Listed). ListerAnswer g units bound asked out q b) (sym same) y))

@@ -1,0 +1,133 @@
+-- Unit use taken apart; a peak has one value and is met at some operation's start; a row is lawful for unit counts at or above its own peak use.
+use mathlib.Core.Path.{_≡_, refl}
+use mathlib.Core.Logic.{_⊎_, inl, inr, ⊎-elim}
+use mathlib.Core.Bool.{true, false}
+use mathlib.Core.List.{List}
+use Prim.Native.Nat.{ℕ, _+_, _≤_, _<_}
+use native.Mathlib.Omega.{arith}
+use borrow.Author.Tests.{eq-eqb, eqb-true, le-leb, leb-true, lt-ltb, ltb-true}
+use lib.Dec.{eqb, leb, ltb}
+use lib.ListN.{length}
+use Rattle.laws.specs.Cases.{same-or-not}
+use Rattle.laws.specs.Rows.{at}
+use Rattle.laws.specs.Tests.{two, clash, off, and-true, and-left, and-right}
+use Rattle.laws.specs.Lowest.{None}
+use Rattle.laws.specs.Greatest.{Greatest, greatest}
+use Rattle.laws.specs.Count.{count-le, count-none}
+use Rattle.laws.specs.Counting.{count-same, count-mono}
+use Rattle.model.specs.Graph.{Graph, order, many, busyTime, typeOf}
+use Rattle.model.specs.Tables.{Keeps, Within}
+use Rattle.model.specs.Use.{runs, running, Lawful, Peak}
+
+-- ---- running, taken apart
+
+-- what it means that i is of type k and running at step l
+pub record Runs (g : Graph) (t : List ℕ) (k l i : ℕ) : Type 0 where
+  pub kind : typeOf g i ≡ k
+  pub started : at t i ≤ l
+  pub unfinished : l < at t i + busyTime g i
+
+-- the test passes exactly where i runs, so that is decided
+module _ (g : Graph) (t : List ℕ) (k l i : ℕ) where
+  pub runs-true : runs g t k l i ≡ true → Runs g t k l i
+  unfolding runs
+  runs-true e =
+      let kind = eqb (typeOf g i) k in
+      let started = leb (at t i) l in
+      let unfinished = ltb l (at t i + busyTime g i) in
+      let times = and-right kind _ e in
+      record {
+        kind = eqb-true _ _ (and-left kind _ e);
+        started = leb-true _ _ (and-left started unfinished times);
+        unfinished = ltb-true _ _ (and-right started unfinished times);
+      }
+
+  pub runs-yes : Runs g t k l i → runs g t k l i ≡ true
+  unfolding runs
+  runs-yes r =
+      and-true (eq-eqb (typeOf g i) k (r .kind))
+      (and-true (le-leb (at t i) l (r .started)) (lt-ltb l (at t i + busyTime g i) (r .unfinished)))
+
+  pub runs-no : (Runs g t k l i → ⊥) → runs g t k l i ≡ false
+  runs-no n = off (runs g t k l i) (λ e. n (runs-true e))
+
+  pub runs-or-not : Runs g t k l i ⊎ (Runs g t k l i → ⊥)
+  runs-or-not =
+      ⊎-elim (λ e. inl (runs-true e)) (λ e. inr (λ r. clash (runs-yes r) e)) (two (runs g t k l i))
+
+-- no more run than there are operations
+pub running-le : (g : Graph) (t : List ℕ) (k l : ℕ) → running g t k l ≤ many g
+running-le g t k l = count-le (runs g t k l) (many g)
+
+-- where nothing runs the count is 0
+pub running-none : (g : Graph) (t : List ℕ) (k l : ℕ) → None (Runs g t k l) (many g) → running g t k l ≡ 0
+running-none g t k l n = count-none (runs g t k l) (many g) (λ i b. runs-no g t k l i (n i b))
+
+-- unit use goes by the starts of operations alone
+pub running-same : (g : Graph) (s t : List ℕ) (k l : ℕ) → ((i : ℕ) → i < many g → at s i ≡ at t i) → running g s k l ≡ running g t k l
+unfolding runs
+running-same g s t k l same = count-same (runs g s k l) (runs g t k l) (many g) (λ i b. rw (same i b))
+
+-- ---- a peak has one value
+pub peak-one : (g : Graph) (t : List ℕ) (k p q : ℕ) → Peak g t k p → Peak g t k q → p ≡ q
+peak-one g t k p q a b = omega (arith, a .met, b .met, a .never-more (b .at-step), b .never-more (a .at-step))
+
+-- ---- a maximum is met at some operation's start
+
+-- none of the first n operations of type k starts at a step where more than p of that type are running
+pub record AtStarts (g : Graph) (t : List ℕ) (k n p : ℕ) : Type 0 where
+  pub bound : (i : ℕ) → i < n → typeOf g i ≡ k → running g t k (at t i) ≤ p
+
+-- p is 0, or at some step p of type k are running
+pub data Met (g : Graph) (t : List ℕ) (k p : ℕ) : Type 0 where
+  nobody : p ≡ 0 → Met g t k p
+  once : (l : ℕ) → running g t k l ≡ p → Met g t k p
+
+module _ (g : Graph) (t : List ℕ) (k : ℕ) where
+  -- whoever runs at l runs at the last start among those who do
+  runs-last : (l : ℕ) (i : Greatest (Runs g t k l) (at t) (many g)) → running g t k l ≤ running g t k (at t (i .place))
+  runs-last l i =
+      count-mono (runs g t k l) (runs g t k (at t (i .place))) (many g)
+      (λ j b e.
+      let r = runs-true g t k l j e in
+      runs-yes g t k (at t (i .place)) j
+      (record {
+        kind = r .kind;
+        started = i .most j b r;
+        unfinished = omega (arith, r .unfinished, i .holds .started);
+      }))
+
+  -- what bounds unit use at every start bounds it at every step
+  pub starts-enough : (p : ℕ) → AtStarts g t k (many g) p → (l : ℕ) → running g t k l ≤ p
+  starts-enough p h l =
+      ⊎-elim
+      (λ i. omega (arith, runs-last l i, h .bound (i .place) (i .inside) (i .holds .kind)))
+      (λ n. omega (arith, running-none g t k l n))
+      (greatest (Runs g t k l) (at t) (many g) (λ i b. runs-or-not g t k l i))
+
+  -- such a bound that is 0, or met, is the peak
+  pub peak-starts : (p : ℕ) → AtStarts g t k (many g) p → Met g t k p → Peak g t k p
+  peak-starts p h (Met.nobody z) =
+      record { never-more = starts-enough p h; at-step = 0; met = omega (arith, starts-enough p h 0) }
+  peak-starts p h (Met.once l e) = record { never-more = starts-enough p h; at-step = l; met = e }
+
+  -- every type has a peak
+  pub peak-exists : (p : ℕ) × Peak g t k p
+  peak-exists =
+      ⊎-elim
+      (λ i. (running g t k (at t (i .place)), peak-starts _ (record { bound = i .most }) (Met.once (at t (i .place)) refl)))
+      (λ none. (0, peak-starts 0 (record { bound = λ i b e. absurd (none i b e) }) (Met.nobody refl)))
+      (greatest (λ i. typeOf g i ≡ k) (λ i. running g t k (at t i)) (many g) (λ i b. same-or-not (typeOf g i) k))
+
+-- ---- a row of n starts that keeps precedence and the bound is lawful for unit counts at or above its own peak use
+pub peak-lawful : (g : Graph) (units : List ℕ) (bound : ℕ) (t : List ℕ) → length t ≡ many g → Keeps (order g) t → Within (order g) bound t
+    → ((k : ℕ) → k < g .kinds → (p : ℕ) → Peak g t k p → p ≤ at units k) → Lawful g units bound t
+peak-lawful g units bound t long keeps within enough =
+    record {
+      long = long;
+      keeps = keeps;
+      within = within;
+      room = λ k l b.
+          let top = peak-exists g t k in
+          omega (arith, enough k b (top .0) (top .1), top .1 .never-more l);
+    }

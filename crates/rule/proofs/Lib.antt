@@ -1,0 +1,10 @@
+mod Tallies
+mod Rooms
+mod Ranks
+mod Passing
+mod Ranking
+mod Labelled
+mod Checked
+mod Filling
+mod Going
+mod Answering

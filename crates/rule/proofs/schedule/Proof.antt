@@ -1,0 +1,55 @@
+-- The loop keeps `Going`: as many advances from fresh as steps passed. The steps that are left fall.
+use Prim.Native.Nat.{_+_, _-_}
+use native.Mathlib.Omega.{arith}
+use lib.ListN.{length}
+use Rattle.model.specs.Limits as limit
+use Rattle.model.specs.Graph.{lent}
+use Rattle.model.specs.RefusalLaws.{closed}
+use Rattle.rule.proofs.Going.{Going, acyclic, going-none, going-from, going-within, going-step, going-end}
+use Rattle.rule.proofs.schedule.Statement.{statement}
+use Rattle.rule.proofs.schedule.Tie as tie
+
+abbrev Inv-loop : tie.InvT-loop
+Inv-loop delays types from to units ranked starts₀ step₀ starts step = Going (lent delays types (length units) from to) units starts step
+
+abbrev μ-loop : tie.MeasureT-loop
+μ-loop delays types from to units ranked starts₀ step₀ starts step = limit.steps + 1 - step
+
+ranks-requires : tie.Need-ranks-requires Inv-loop μ-loop
+ranks-requires c κs = (closed _ (c .before .before .before .before .before .pre .sound), acyclic (c .before .before .before .before .before .pre))
+
+loop-holds : tie.Need-loop-holds Inv-loop μ-loop
+loop-holds c = going-none (c .ranks .ensures (c .before .before .before .before .before .before .args .types .now) (length (c .before .before .before .before .before .before .args .units .now)))
+
+full-requires : tie.Need-full-requires Inv-loop μ-loop
+full-requires c κs = c .before .before .before .before .before .before .before .before .pre .sound .few
+
+returns : tie.Need-returns Inv-loop μ-loop
+returns c = going-end (c .before .before .before .loop .inv) (c .before .full .ensures .yes (c .if1 .taken))
+
+step-requires : tie.Need-step-requires Inv-loop μ-loop
+step-requires c κs = (c .before .before .before .before .before .before .before .before .before .before .before .before .pre .sound, ((c .before .before .before .before .before .before .ranks .ensures (c .before .before .before .before .before .before .before .before .before .before .before .before .args .types .now) (length (c .before .before .before .before .before .before .before .before .before .before .before .before .args .units .now))), ((going-from (c .before .before .before .before .before .loop .inv), (going-within (c .before .before .before .before .before .loop .inv) (c .before .before .before .before .before .before .before .before .before .before .before .before .pre) (c .before .before .before .full .ensures .none (c .before .before .if1 .left)))), c .before .before .before .before .before .loop .inv .long)))
+
+add-step : tie.Need-add-step Inv-loop μ-loop
+add-step c = omega (arith, (going-within (c .before .before .before .before .before .before .loop .inv) (c .before .before .before .before .before .before .before .before .before .before .before .before .before .pre) (c .before .before .before .before .full .ensures .none (c .before .before .before .if1 .left))))
+
+loop-less : tie.Need-loop-less Inv-loop μ-loop
+loop-less c = omega (arith, (going-within (c .before .before .before .before .before .before .loop .inv) (c .before .before .before .before .before .before .before .before .before .before .before .before .before .pre) (c .before .before .before .before .full .ensures .none (c .before .before .before .if1 .left))))
+
+loop-again : tie.Need-loop-again Inv-loop μ-loop
+loop-again c = going-step (c .before .before .before .before .before .before .loop .inv) (c .step .ensures)
+
+pub schedule-spec : {M : Type 1} → statement M
+schedule-spec =
+    tie.close
+    (tie.spec
+    Inv-loop
+    μ-loop
+    ranks-requires
+    loop-holds
+    full-requires
+    returns
+    step-requires
+    add-step
+    loop-less
+    loop-again)

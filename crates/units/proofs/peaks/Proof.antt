@@ -1,0 +1,89 @@
+-- `units::peaks` meets its contract: each number is the largest count at the starts passed, and a maximum is met at a start.
+use Prim.Native.Nat.{ℕ, _-_}
+use mathlib.Core.List.{List}
+use Rattle.model.specs.Graph.{lent}
+use Rattle.units.proofs.Peaked.{Peaked, peaked-none, peaked-step, peaked-end}
+use native.Mathlib.Omega.{arith}
+use borrow.Author.Needs.{needs}
+use lib.ListN.{length}
+use Rattle.units.proofs.peaks.Statement.{statement}
+use Rattle.units.proofs.peaks.Tie as tie
+
+abbrev Inv-loop : tie.InvT-loop
+Inv-loop delays types starts counts₀ i₀ counts i = (kinds : ℕ) (from to : List ℕ) → Peaked (lent delays types kinds from to) starts counts i
+
+abbrev μ-loop : tie.MeasureT-loop
+μ-loop delays types starts counts₀ i₀ counts i = length delays - i
+
+loop-holds : tie.Need-loop-holds Inv-loop μ-loop
+loop-holds c = λ kinds from to. peaked-none
+
+shared-slice-read-kind : tie.Need-shared-slice-read-kind Inv-loop μ-loop
+shared-slice-read-kind c = search needs
+
+cast-kind : tie.Need-cast-kind Inv-loop μ-loop
+cast-kind c = omega (arith, c .shared-slice-known4 .given (c .before .before .loop .i))
+
+mul-step : tie.Need-mul-step Inv-loop μ-loop
+mul-step c = search needs
+
+shared-slice-read-step : tie.Need-shared-slice-read-step Inv-loop μ-loop
+shared-slice-read-step c = search needs
+
+cast-step : tie.Need-cast-step Inv-loop μ-loop
+cast-step c = omega (arith, c .shared-slice-known5 .given (c .before .before .before .loop .i))
+
+mul-larger : tie.Need-mul-larger Inv-loop μ-loop
+mul-larger c = omega (arith, c .before .before .before .before .before .before .before .pre .type-in (c .before .before .before .loop .i) (c .before .before .loop-test .taken))
+
+array-read-larger : tie.Need-array-read-larger Inv-loop μ-loop
+array-read-larger c = c .before .before .before .before .before .before .before .pre .type-in (c .before .before .before .loop .i) (c .before .before .loop-test .taken)
+
+running-at-requires : tie.Need-running-at-requires Inv-loop μ-loop
+running-at-requires c κs = (c .before .before .before .before .before .before .before .pre .even-types, c .before .before .before .before .before .before .before .pre .even-starts)
+
+larger-requires : tie.Need-larger-requires Inv-loop μ-loop
+larger-requires c κs = search needs
+
+mul-counts : tie.Need-mul-counts Inv-loop μ-loop
+mul-counts c = omega (arith, c .before .before .before .before .before .before .before .before .before .pre .type-in (c .before .before .before .before .before .loop .i) (c .before .before .before .before .loop-test .taken))
+
+array-write-counts : tie.Need-array-write-counts Inv-loop μ-loop
+array-write-counts c = c .before .before .before .before .before .before .before .before .before .pre .type-in (c .before .before .before .before .before .loop .i) (c .before .before .before .before .loop-test .taken)
+
+add-i : tie.Need-add-i Inv-loop μ-loop
+add-i c = search needs
+
+loop-less : tie.Need-loop-less Inv-loop μ-loop
+loop-less c = search needs
+
+loop-again : tie.Need-loop-again Inv-loop μ-loop
+loop-again c = λ kinds from to.
+    peaked-step (c .before .before .before .before .before .loop .inv kinds from to) (c .before .before .before .before .loop-test .taken) (c .before .before .before .before .before .before .before .before .before .pre .type-in (c .before .before .before .before .before .loop .i) (c .before .before .before .before .loop-test .taken))
+    (omega (arith, c .larger .ensures, c .before .running-at .ensures kinds from to))
+
+returns : tie.Need-returns Inv-loop μ-loop
+returns c = λ kinds from to. peaked-end (c .before .loop .inv kinds from to) (c .loop-test .left)
+
+pub peaks-spec : {M : Type 1} → statement M
+peaks-spec =
+    tie.close
+    (tie.spec
+    Inv-loop
+    μ-loop
+    loop-holds
+    shared-slice-read-kind
+    cast-kind
+    mul-step
+    shared-slice-read-step
+    cast-step
+    mul-larger
+    array-read-larger
+    running-at-requires
+    larger-requires
+    mul-counts
+    array-write-counts
+    add-i
+    loop-less
+    loop-again
+    returns)

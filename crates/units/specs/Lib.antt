@@ -1,0 +1,4 @@
+pub mod Tally
+pub mod Findings
+pub mod Peaking
+pub mod One
