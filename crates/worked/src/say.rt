@@ -44,5 +44,4 @@ pub fn refusal(why: Refusal, out: &[u16]) {
         text(b": ");
         row(out, place, b" ");
     }
-    text(b"\n");
 }

@@ -5,16 +5,14 @@ use model::Answer;
 // Writes what a question that fills a row answered: the row's first n entries, or the refusal.
 fn filled(answer: Answer, out: &[u16], n: usize) {
     match answer {
-        Answer::Done => {
-            say::row(out, n, b" ");
-            say::text(b"\n");
-        }
+        Answer::Done => say::row(out, n, b" "),
         Answer::Refused(why) => say::refusal(why, out),
     }
+    say::text(b"\n");
 }
 
 // Cases 1 and 2: the eleven-operation graph.
-fn eleven() {
+pub fn eleven() {
     let delays = [1u8; 11];
     let types = [0u8, 0, 0, 1, 1, 0, 0, 0, 1, 1, 1];
     let from = [0u16, 1, 2, 3, 5, 6, 7, 9];
@@ -53,7 +51,7 @@ fn eleven() {
 }
 
 // Cases 6 and 7: cycles.
-fn cycles() {
+pub fn cycles() {
     let delays = [1u8; 3];
     let types = [0u8; 3];
     let mut out = [0u16; 3];
@@ -69,10 +67,4 @@ fn cycles() {
         &out,
         3,
     );
-}
-
-// All of these cases.
-pub fn all() {
-    eleven();
-    cycles();
 }
