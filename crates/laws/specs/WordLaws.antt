@@ -20,6 +20,7 @@ use Rattle.laws.specs.Words.{Same, Before, joined, words, keepIf, keep}
 pub same-none : (a b : List ℕ) → Same 0 a b
 same-none a b = record { upto = λ j h. absurd (not-suc-le-zero h) }
 
+-- to agree below k is to be equal as far as k: reflexive, symmetric, transitive
 pub same-refl : (k : ℕ) (a : List ℕ) → Same k a a
 same-refl k a = record { upto = λ j h. refl }
 
@@ -29,12 +30,14 @@ same-sym s = record { upto = λ j h. sym (s .upto j h) }
 pub same-trans : {k : ℕ} {a b c : List ℕ} → Same k a b → Same k b c → Same k a c
 same-trans s t = record { upto = λ j h. s .upto j h ∙ t .upto j h }
 
+-- rows that agree below k agree below less, and below one more where they agree at k
 pub same-down : {k m : ℕ} {a b : List ℕ} → m ≤ k → Same k a b → Same m a b
 same-down l s = record { upto = λ j h. s .upto j (omega arith) }
 
 pub same-more : {i : ℕ} {a b : List ℕ} → Same i a b → at a i ≡ at b i → Same (i + 1) a b
 same-more {i} {a} {b} s e = record { upto = below-more (λ (j : ℕ). at a j ≡ at b j) i (s .upto) e }
 
+-- an entry at i is set: nothing below i changes
 pub same-set : (s : List ℕ) (i t : ℕ) → Same i (set s i t) s
 same-set s i t = record { upto = λ j h. getD-set-other s i j t 0 (omega arith) }
 
@@ -46,9 +49,11 @@ same-list {n} {a} {b} p q s = same-row a b (p ∙ sym q) (λ i l. s .upto i (ome
 pub before-here : {n i : ℕ} {a b : List ℕ} → i < n → Same i a b → at a i < at b i → Before n a b
 before-here {n} {i} h s l = record { place = i; inside = h; same = s; less = l }
 
+-- what comes before among fewer entries does so among more
 pub before-wide : {n m : ℕ} {a b : List ℕ} → n ≤ m → Before n a b → Before m a b
 before-wide h x = record { place = x .place; inside = omega (arith, x .inside); same = x .same; less = x .less }
 
+-- rows that agree do not come before each other
 pub same-not-before : {n : ℕ} {a b : List ℕ} → Same n a b → Before n a b → ⊥
 same-not-before s b = omega (arith, s .upto (b .place) (b .inside), b .less)
 
@@ -68,6 +73,7 @@ before-at {n} {i} {a} {b} s x =
     (lt-or-le (x .place) i))
     (lt-or-le i (x .place))
 
+-- the place at which the rows part is the lower of the two
 pub before-trans : {n : ℕ} {a b c : List ℕ} → Before n a b → Before n b c → Before n a c
 before-trans {n} {a} {b} {c} x y =
     ⊎-elim first
@@ -95,6 +101,7 @@ before-same x s =
     before-here (x .inside) (same-trans (x .same) (same-down (omega (arith, x .inside)) s))
     (omega (arith, x .less, s .upto (x .place) (x .inside)))
 
+-- no row comes before one that comes before it
 pub before-not-after : {n : ℕ} {a b : List ℕ} → Before n a b → Before n b a → ⊥
 before-not-after {n} {a} x y = before-not-self a (before-trans x y)
 
@@ -131,12 +138,14 @@ pub data Rising (n : ℕ) : List (List ℕ) → Type 0 where
   done : Rising n []
   ahead : {row : List ℕ} {rest : List (List ℕ)} → ((u : List ℕ) → Among u rest → Before n row u) → Rising n rest → Rising n (row ∷ rest)
 
+-- the two parts of a rising list
 pub rising-head : {n : ℕ} {row : List ℕ} {rest : List (List ℕ)} → Rising n (row ∷ rest) → (u : List ℕ) → Among u rest → Before n row u
 rising-head (ahead h r) = h
 
 pub rising-tail : {n : ℕ} {row : List ℕ} {rest : List (List ℕ)} → Rising n (row ∷ rest) → Rising n rest
 rising-tail (ahead h r) = r
 
+-- two rising lists rise as one where all of the first come before all of the second
 pub rising-append : {n : ℕ} (a b : List (List ℕ)) → Rising n a → Rising n b → ((u v : List ℕ) → Among u a → Among v b → Before n u v) → Rising n (a ++ b)
 rising-append [] b ra rb h = rb
 rising-append (row ∷ rest) b ra rb h =
@@ -151,6 +160,7 @@ pub record InJoined (f : ℕ → List (List ℕ)) (k : ℕ) (u : List ℕ) : Typ
   pub high : number ≤ k
   pub inside : Among u (f number)
 
+-- what stands there stands in one of them, and what stands in one of them stands there
 pub joined-in : (f : ℕ → List (List ℕ)) (k : ℕ) (u : List ℕ) → Among u (joined f k) → InJoined f k u
 unfolding joined
 joined-in f zero u m = absurd (List·Memᴰ·not-nil m)
@@ -172,6 +182,7 @@ joined-all f (suc k) u s low high m =
     (λ l. Memᴰ·append-left (f (suc k)) (joined-all f k u s low (le-of-suc-le-suc l) m))
     (eq-or-lt-of-le high)
 
+-- they rise as one where each rises, and each comes before the later ones
 pub joined-rising : {n : ℕ} (f : ℕ → List (List ℕ)) (k : ℕ) → ((s : ℕ) → Rising n (f s))
     → ((s t : ℕ) → s < t → (u v : List ℕ) → Among u (f s) → Among v (f t) → Before n u v) → Rising n (joined f k)
 unfolding joined
@@ -186,9 +197,11 @@ pub record InMap (s : ℕ) (rows : List (List ℕ)) (u : List ℕ) : Type 0 wher
   pub is : u ≡ s ∷ rest
   pub inside : Among rest rows
 
+-- the rows of a list, each behind the letter s
 abbrev pub front : ℕ → List (List ℕ) → List (List ℕ)
 front s rows = map (λ (row : List ℕ). s ∷ row) rows
 
+-- what stands there is s and a row of the list, and that is all that stands there
 pub front-in : (s : ℕ) (rows : List (List ℕ)) (u : List ℕ) → Among u (front s rows) → InMap s rows u
 front-in s [] u m = absurd (List·Memᴰ·not-nil m)
 front-in s (row ∷ rows) u m =
@@ -216,6 +229,7 @@ before-front {n} s {a} {b} x = record {
     agree zero h = refl
     agree (suc j) h = x .same .upto j (le-of-suc-le-suc h)
 
+-- they rise as the rows behind the letter do
 pub front-rising : {n : ℕ} (s : ℕ) (rows : List (List ℕ)) → Rising n rows → Rising (suc n) (front s rows)
 front-rising s [] r = done
 front-rising {n} s (row ∷ rows) r = ahead first (front-rising s rows (rising-tail r))
@@ -301,6 +315,7 @@ pub record Passes (p : List ℕ → Bool) (rows : List (List ℕ)) (u : List ℕ
   pub inside : Among u rows
   pub pass : p u ≡ true
 
+-- what is kept stood in the list and passes
 pub keep-in : (p : List ℕ → Bool) (rows : List (List ℕ)) (u : List ℕ) → Among u (keep p rows) → Passes p rows u
 unfolding keep
 keep-in p [] u m = absurd (List·Memᴰ·not-nil m)
@@ -327,6 +342,7 @@ keep-all p (row ∷ rows) u m t = go (p row) refl (List·Memᴰ·cases-cons m) (
     go true e c rest = ⊎-elim (λ d. List·Memᴰ·head d) (λ h. List·Memᴰ·tail (rest h)) c
     go false e c rest = ⊎-elim (λ d. absurd (false≢true (sym e ∙ sym (ap p d) ∙ t))) rest c
 
+-- what is kept of a rising list rises
 pub keep-rising : {n : ℕ} (p : List ℕ → Bool) (rows : List (List ℕ)) → Rising n rows → Rising n (keep p rows)
 unfolding keep
 keep-rising p [] r = done

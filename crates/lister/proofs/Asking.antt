@@ -1,5 +1,5 @@
 -- A question put together: the beginning's refusals, the bound's, and then what the search found.
-use mathlib.Core.Path.{_≡_, refl, sym, ap, subst, _∙_}
+use mathlib.Core.Path.{_≡_, refl, sym, ap, subst}
 use mathlib.Core.Bool.{Bool, true, false}
 use mathlib.Core.Logic.{_⊎_, inl, inr, ⊎-elim}
 use mathlib.Core.Option.{Option, none, some}
@@ -13,12 +13,12 @@ use Rattle.laws.specs.TellLaws.{on}
 use Rattle.laws.specs.Rows.{at}
 use Rattle.model.specs.Limits as limit
 use Rattle.model.specs.Graph.{Graph, order, many, lent, Sound}
-use Rattle.model.specs.Refusals.{Rule, First, Flat, shape, output, unitless, cyclic, large-bound, late-bound}
-use Rattle.model.specs.RefusalLaws.{first-pass, shape-own-then, own-not, Never, never-append}
-use Rattle.model.specs.Answers.{refusalOf, numbered, Answered, RowAfter}
+use Rattle.model.specs.Refusals.{Rule, First, Flat, output, unitless, cyclic, large-bound, late-bound}
+use Rattle.model.specs.RefusalLaws.{first-pass, shape-own-then, Never, never-append}
+use Rattle.model.specs.Answers.{refusalOf, numbered, Answered}
 use Rattle.model.specs.FrameLaws.{answered-refused, answered-passed, refused-stays, row-is, row-given}
 use Rattle.model.specs.TableAnswers.{large-bound-never, late-bound-never}
-use Rattle.model.specs.Listing.{ListerUneven, ManyWindows, Gives, refusalIn, ListerAnswer}
+use Rattle.model.specs.Listing.{ListerUneven, ManyWindows, Gives, ListerAnswer}
 use Rattle.model.specs.declared.Answer.{Answer}
 use Rattle.model.specs.declared.Answer.the-variants.{Done, Refused}
 use Rattle.model.specs.declared.Refusal.{Refusal}
@@ -59,15 +59,19 @@ back-never g bound =
     (λ p h. omega (arith, h .is), tt)
 
 module _ (d t : List ℕ) (kinds : ℕ) (f o units : List ℕ) (bound : ℕ) {tight matched : Bool} {row : List ℕ} (m : Matched (lent d t kinds f o) units tight row matched) {before s out : List ℕ} {a : Answer} (b : Begun (lent d t kinds f o) units (matched ≡ false) before a s out) where
+  -- the graph that is lent
   abbrev g : Graph
   g = lent d t kinds f o
 
+  -- the row asked after, if one is
   abbrev asked : Option (List ℕ)
   asked = askedOf tight row
 
+  -- refusals 1 to 7, in 01's words
   abbrev front : List Rule
   front = frontChecks g units (ListerUneven g units asked) (length before)
 
+  -- the output row is as it was
   abbrev stays : List ℕ → Type 0
   stays r = r ≡ before
 
@@ -83,6 +87,7 @@ module _ (d t : List ℕ) (kinds : ℕ) (f o units : List ℕ) (bound : ℕ) {ti
         row = h .row;
       }
 
+  -- refused by one of the first seven
   pub ask-refused : {why : Refusal} → a ≡ Refused why → ListerAnswer g units bound asked before (answers.Refused why) out
   ask-refused {why} e = answered-refused (order g) front (backChecks g bound) before stays _ (numbered why) out (begun-as e)
 
@@ -94,6 +99,7 @@ module _ (d t : List ℕ) (kinds : ℕ) (f o units : List ℕ) (bound : ℕ) {ti
     kept = row-is (order g) before stays out (begun-as e .row)
 
     module _ {w : Answer} {late : List ℕ} (c : Bounded g bound w late) where
+      -- refused by one of the last three
       pub ask-bounded : {why : Refusal} → w ≡ Refused why → ListerAnswer g units bound asked before (answers.Refused why) out
       ask-bounded {why} e′ =
           answered-passed (order g) front (backChecks g bound) before _ (some (numbered why)) out (begun-as e .first)

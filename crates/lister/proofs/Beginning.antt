@@ -1,6 +1,6 @@
 -- The beginning of a question: the checks of its parts, one after another, are refusals 1 to 7.
 use mathlib.Core.Path.{_≡_, refl}
-use mathlib.Core.Option.{Option, none, some}
+use mathlib.Core.Option.{none, some}
 use mathlib.Core.List.{List, _++_}
 use Prim.Native.Nat.{ℕ, _≤_}
 use native.Mathlib.Omega.{arith}
@@ -15,7 +15,7 @@ use Rattle.model.specs.declared.Answer.{Answer}
 use Rattle.model.specs.declared.Answer.the-variants.{Done, Refused}
 use Rattle.model.specs.declared.Refusal.{Refusal}
 use Rattle.precedence.specs.Tried.{Tried}
-use Rattle.lister.specs.Asking.{frontChecks, Begun}
+use Rattle.lister.specs.Asking.{Begun}
 
 -- an answer that refuses is no pass
 pub refused-passes : (why : Refusal) {P : Type 0} → refusalOf (Refused why) ≡ none → P
@@ -26,6 +26,7 @@ module _ (g : Graph) (units : List ℕ) (Own : Type 0) (before : List ℕ) where
   abbrev five : List Rule
   five = shape g Own ++ output g (length before)
 
+  -- and the sixth
   abbrev six : List Rule
   six = five ++ unitless g units
 
@@ -55,6 +56,7 @@ module _ (g : Graph) (units : List ℕ) (Own : Type 0) (before : List ℕ) where
       parts : First (shape g Own) none × First (output g (length before)) none
       parts = first-none-append (shape g Own) (output g (length before)) (first-told five e h)
 
+      -- what the first five leave where they say nothing
       pub begun-sound : Sound g
       begun-sound = sound g Own (parts .0)
 
@@ -70,6 +72,7 @@ module _ (g : Graph) (units : List ℕ) (Own : Type 0) (before : List ℕ) where
             refused why s
             (first-pass five (unitless g units) (some (numbered why)) (first-told five e h) (first-told (unitless g units) d k))
 
+        -- the seventh decides
         pub begun-placed : {r : Answer} {s after : List ℕ} → b ≡ Done → Tried (order g) before r s after → Begun g units Own before r s after
         begun-placed {r} {s} {after} d t = record {
           answered = answered-passed (order g) six (cyclic (order g)) before (λ r. r ≡ before) (refusalOf r) after

@@ -1,26 +1,23 @@
 -- Refusals 8 to 10: of a bound that is low enough and not below the latency the windows are known, and their product decides.
-use mathlib.Core.Path.{_≡_, refl, sym, subst}
-use mathlib.Core.Option.{Option, none, some}
-use mathlib.Core.List.{List, [], _∷_, _++_}
+use mathlib.Core.Path.{_≡_, sym, subst}
+use mathlib.Core.Option.{none}
+use mathlib.Core.List.{List, _++_}
 use Prim.Native.Nat.{ℕ, _-_, _≤_, _<_}
 use native.Mathlib.Omega.{arith}
-use lib.ListN.{length}
 use Rattle.laws.specs.Rows.{at, tabulate, tabulate-long, tabulate-at}
 use Rattle.model.specs.Limits as limit
 use Rattle.model.specs.Order.{Order, Closed}
 use Rattle.model.specs.Graph.{Graph, order, many}
-use Rattle.model.specs.Tables.{Earliest, Latest, Latency, Mobility}
+use Rattle.model.specs.Tables.{Earliest, Latency, Mobility}
 use Rattle.model.specs.TableLaws.{earliest-one, earliest-same, latest-same, within-same, latency-within, asap-alap, mobility-one}
-use Rattle.model.specs.Refusals.{First, Flat, Late, large-bound, late-bound}
+use Rattle.model.specs.Refusals.{First, Late, large-bound, late-bound}
 use Rattle.model.specs.RefusalLaws.{first-hit, first-pass, first-says, first-silent, first-end, flat-says, flat-silent}
 use Rattle.model.specs.Listing.{product, ManyWindows}
-use Rattle.model.specs.declared.Answer.{Answer}
 use Rattle.model.specs.declared.Answer.the-variants.{Done, Refused}
-use Rattle.model.specs.declared.Refusal.{Refusal}
 use Rattle.model.specs.declared.Refusal.the-variants.{BoundTooLarge, BoundTooSmall, TooManyWindows}
 use Rattle.tables.specs.Begun.{Room, LatestRow}
 use Rattle.lister.specs.Search.{spans, Windows}
-use Rattle.lister.specs.Asking.{backChecks, Bounded}
+use Rattle.lister.specs.Asking.{Bounded}
 use Rattle.lister.proofs.Beginning.{refused-passes}
 
 -- the latency of any earliest starts is that of these
@@ -31,6 +28,7 @@ not-late o closed early is l bound ends up x =
     absurd (omega (arith, x .below, x .ends .least bound inside))
 
 module _ (g : Graph) (closed : Closed (order g)) (bound : ℕ) (early : List ℕ) (is-early : Earliest (order g) early) where
+  -- above the last step: refusal 8
   pub bounded-large : (late : List ℕ) → limit.steps < bound → Bounded g bound (Refused BoundTooLarge) late
   bounded-large late l = record {
     first = first-hit (large-bound bound ++ late-bound (order g) bound) _ _
@@ -44,6 +42,7 @@ module _ (g : Graph) (closed : Closed (order g)) (bound : ℕ) (early : List ℕ
     not-large : First (large-bound bound) none
     not-large = first-silent _ _ none (flat-silent 8 _ (λ b. absurd (omega arith))) first-end
 
+    -- below the latency: refusal 9
     pub bounded-late : (late : List ℕ) → bound < l → Bounded g bound (Refused BoundTooSmall) late
     bounded-late late b = record {
       first = first-hit (large-bound bound ++ late-bound (order g) bound) _ _
@@ -98,6 +97,7 @@ module _ (g : Graph) (closed : Closed (order g)) (bound : ℕ) (early : List ℕ
               );
         }
 
+        -- more windows than the limit: refusal 10
         pub bounded-many : limit.windows < product (spans early late (many g)) (many g) → Bounded g bound (Refused TooManyWindows) late
         bounded-many above = record {
           first = first-pass (large-bound bound ++ late-bound (order g) bound) _ _ bound-passes
@@ -114,6 +114,7 @@ module _ (g : Graph) (closed : Closed (order g)) (bound : ℕ) (early : List ℕ
             (mobility-one g bound (h .mobility) (spans early late (many g)) (h .is) mobility)
             (h .above))
 
+        -- none applies
         pub bounded-done : (limit.windows < product (spans early late (many g)) (many g) → ⊥) → Bounded g bound Done late
         bounded-done few = record {
           first = first-pass (large-bound bound ++ late-bound (order g) bound) _ _ bound-passes

@@ -8,8 +8,7 @@ use lib.Dec.{eqb, leb, ltb}
 use Rattle.laws.specs.Cases.{same-or-not, lt-or-le}
 use Rattle.laws.specs.Rows.{at}
 use Rattle.laws.specs.Tests.{_and_}
-use Rattle.laws.specs.Count.{bit, count-le}
-use Rattle.laws.specs.Count.{count-start, count-step}
+use Rattle.laws.specs.Count.{bit, count-le, count-start, count-step}
 use Rattle.laws.specs.Greatest.{Greatest, greatest}
 use Rattle.model.specs.Graph.{Graph}
 use Rattle.model.specs.Use.{runs}
@@ -24,6 +23,7 @@ pub record Counted (busy types t : List ℕ) (k l placed count i : ℕ) : Type 0
   pub few : count ≤ i
 
 module _ {busy types t : List ℕ} {k l placed : ℕ} where
+  -- none is counted yet, one more is, all are
   pub counted-none : Counted busy types t k l placed 0 0
   counted-none = record { inside = omega arith; is = sym (count-start (runs (users busy types) t k l)); few = omega arith }
 
@@ -81,5 +81,6 @@ pub room-own : {busy types units t : List ℕ} {i : ℕ} → 1 ≤ at busy i →
     → inUse busy types t (at types i) (at t i) (i + 1) ≤ at units (at types i)
 room-own h r = r .enough _ (omega arith) (omega arith)
 
+-- enough all the while is enough at each start within the run
 pub room-calm : {busy types units t : List ℕ} {i : ℕ} (j : ℕ) → Room busy types units t i → Calm busy types units t i j
 room-calm j r = record { calm = λ e a b. r .enough _ (omega arith) b }

@@ -6,10 +6,10 @@ use Prim.Native.Nat.{ℕ, zero, suc, _+_, _-_, _*_, _<_, _≤_}
 use native.Mathlib.Nat.{eq-or-lt-of-le, le-of-suc-le-suc, mul-le-mul, mul-le-mul-left}
 use native.Mathlib.Numerals.{add-one}
 use native.Mathlib.Omega.{arith}
-use Rattle.laws.specs.Rows.{at, tabulate, tabulate-at}
+use Rattle.laws.specs.Rows.{at, tabulate-at}
 use Rattle.model.specs.Limits as limit
 use Rattle.model.specs.Listing.{product}
-use Rattle.lister.specs.Search.{spans, Windows}
+use Rattle.lister.specs.Search.{spans}
 
 product-step : (m : List ℕ) (i : ℕ) → product m (i + 1) ≡ product m i * (at m i + 1)
 unfolding product
@@ -49,12 +49,15 @@ module _ {early late : List ℕ} {n : ℕ} where
           let factor : r ≡ at (spans early late n) i + 1 = omega (arith, tabulate-at (λ i. at late i - at early i) n i inside) in
           ap₂ _*_ (w .is) factor ∙ sym (product-step (spans early late n) i)
 
+      -- one factor more, within the limit
       pub multiplied-step : windows * r ≤ limit.windows → Multiplied early late n (windows * r) (i + 1)
       multiplied-step small = record { inside = omega arith; is = more; small = small }
 
+      -- one factor more, above the limit: no later factor brings it back
       pub multiplied-above : limit.windows < windows * r → limit.windows < product (spans early late n) n
       multiplied-above above = omega (arith, more, product-up (spans early late n) (i + 1) n (omega arith))
 
+    -- all factors are in, and the limit was never passed
     pub multiplied-end : n ≤ i → limit.windows < product (spans early late n) n → ⊥
     multiplied-end last above =
         let e : i ≡ n = omega (arith, w .inside) in

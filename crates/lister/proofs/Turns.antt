@@ -16,7 +16,7 @@ use Rattle.laws.specs.Counting.{count-same}
 use Rattle.laws.specs.Words.{Same, Before}
 use Rattle.laws.specs.WordLaws.{same-none, same-refl, same-sym, same-trans, same-down, same-more, same-set, before-here, same-not-before, before-at}
 use Rattle.model.specs.Limits as limit
-use Rattle.model.specs.Graph.{Graph, many, edgesOf, Sound}
+use Rattle.model.specs.Graph.{Graph, many, Sound}
 use Rattle.model.specs.Use.{runs}
 use Rattle.lister.specs.Fit.{users, inUse, EdgeKept, Room, Fits}
 use Rattle.lister.specs.Search.{Job, Sized, Placed, Ready, Completes, Searched, Begins, Stays, Tried}
@@ -39,6 +39,7 @@ room-local {busy} {types} {i = i} s r = record {
       omega (arith, in-use-local busy types (at types i) l (i + 1) s, r .enough l (omega arith) (omega arith));
 }
 
+-- so rows that agree up to i fit there together
 pub fits-local : {g : Graph} {units : List ℕ} {i : ℕ} {a b : List ℕ} → Same (i + 1) a b → Fits g units a i → Fits g units b i
 fits-local s f = record { edges = λ e h. edge-local s (f .edges e h); room = room-local s (f .room) }
 
@@ -57,6 +58,7 @@ module _ {j : Job} {i : ℕ} where
     fits = below-more (λ (k : ℕ). Fits (j .graph) (j .units) s k) i (p .fits) fits;
   }
 
+-- nothing is placed
 pub placed-none : {j : Job} {s : List ℕ} → Placed j 0 s
 placed-none = record {
   low = λ k h. absurd (not-suc-le-zero h);
@@ -189,6 +191,7 @@ not-skipped {i = i} {t = t} inside kept tried q c low =
     (λ h. h)
     (lt-or-le (at q i) t)
 
+-- the loop begins at the first start at which i fits
 pub loop-begins : {j : Job} {i b t : ℕ} {s₀ s : List ℕ} {tight : Bool} → i < many (j .graph) → Ready j s₀ i tight
     → Begins tight (at (j .early) i) (at (j .after) i) b
     → Tried (j .graph) (j .units) s₀ i b (at (j .late) i) s t → length s ≡ length s₀ → Loop j s i tight s t
@@ -214,6 +217,7 @@ module _ {j : Job} {i t : ℕ} {s₀ s : List ℕ} {tight : Bool} (w : Loop j s�
   pub loop-fits : (s′ : List ℕ) → length s′ ≡ length s → (i < many (j .graph)) × (i < length s′) × Sound (j .graph) × (at (j .late) i ≤ limit.steps)
   loop-fits s′ e = (w .inside, omega (arith, w .long, w .ready .sized .row, w .inside), w .ready .sized .sound, w .ready .sized .few i (w .inside))
 
+  -- no start in the window is left, and all were passed
   pub loop-out : at (j .late) i < t → Searched j s₀ i tight s false
   loop-out l = record {
     kept = w .kept;

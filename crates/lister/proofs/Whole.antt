@@ -1,21 +1,20 @@
 -- Rows in which every operation stands in its window, where it may, are the lawful schedules: so the search's answer is the question's.
-use mathlib.Core.Path.{_≡_, refl, sym, subst, _∙_}
+use mathlib.Core.Path.{_≡_, refl, sym, subst}
 use mathlib.Core.Bool.{Bool, true, false}
 use mathlib.Core.Logic.{⊎-elim}
 use mathlib.Core.List.{List}
-use Prim.Native.Nat.{ℕ, zero, suc, _+_, _<_, _≤_}
-use native.Mathlib.Nat.{not-suc-le-zero, eq-or-lt-of-le, le-of-suc-le-suc}
+use Prim.Native.Nat.{ℕ, zero, suc, _+_, _≤_}
+use native.Mathlib.Nat.{eq-or-lt-of-le, le-of-suc-le-suc}
 use native.Mathlib.Numerals.{add-one}
 use native.Mathlib.Omega.{arith}
 use lib.ListN.{length, take}
 use Rattle.laws.specs.Cases.{le-or-lt}
 use Rattle.laws.specs.Tests.{two, clash}
-use Rattle.laws.specs.Rows.{at, over, take-at, take-long}
+use Rattle.laws.specs.Rows.{at, take-at, take-long}
 use Rattle.laws.specs.Sum.{sum}
-use Rattle.laws.specs.Count.{bit-le, count, count-yes, count-no}
-use Rattle.laws.specs.Count.{count-start, count-step}
+use Rattle.laws.specs.Count.{count, count-no, count-start}
 use Rattle.laws.specs.Words.{Same, Before}
-use Rattle.laws.specs.WordLaws.{same-none, same-sym, same-trans, before-same}
+use Rattle.laws.specs.WordLaws.{same-none, same-sym, before-same}
 use Rattle.model.specs.Graph.{Graph, order, many, typeOf, Sound}
 use Rattle.model.specs.Order.{source, target}
 use Rattle.model.specs.Tables.{Earliest, Latest}
@@ -25,8 +24,8 @@ use Rattle.model.specs.LawfulLaws.{runningFirst, lawful-in-window}
 use Rattle.model.specs.Listing.{Later, Least, NoneLeft, Gives}
 use Rattle.model.specs.declared.Listed.{Listed}
 use Rattle.model.specs.declared.Listed.the-variants as answers
-use Rattle.lister.specs.Fit.{users, inUse}
-use Rattle.lister.specs.Search.{Job, Sized, Placed, Completes, Searched}
+use Rattle.lister.specs.Fit.{inUse}
+use Rattle.lister.specs.Search.{Job, Placed, Completes, Searched}
 use Rattle.lister.specs.Asking.{askedOf, Given, Sought}
 use Rattle.lister.proofs.Turns.{placed-local}
 
@@ -87,6 +86,7 @@ module _ (j : Job) (sound : Sound (j .graph)) (bound : ℕ) (early : Earliest (o
           omega (arith, room, in-use-is (j .graph) t (typeOf (j .graph) m) l (m + 1)) in
           rw add-one at (subst (λ (i : ℕ). runningFirst (j .graph) t (m + 1) i l ≤ at (j .units) i) (r .kind) enough)
 
+  -- such a row is lawful: its edges were looked at when their later end was placed
   pub placed-lawful : (t : List ℕ) → length t ≡ many (j .graph) → Placed j (many (j .graph)) t → Lawful (j .graph) (j .units) bound t
   placed-lawful t long p = record {
     long = long;
@@ -132,6 +132,7 @@ module _ (j : Job) (sound : Sound (j .graph)) (bound : ℕ) (early : Earliest (o
     search-none : found ≡ false → NoneLeft (j .graph) (j .units) bound (askedOf tight (j .after))
     search-none off = record { none-later = λ u h l. f .none off u (completes u h l) }
 
+-- what the search found is the least schedule; what it did not find does not exist
 pub sought : {j : Job} → Sound (j .graph) → {s s′ before after : List ℕ} {tight : Bool} (found : Bool) {r : Listed} → Searched j s 0 tight s′ found
     → many (j .graph) ≤ length s′ → Given (take (many (j .graph)) s′) found before r after → Sought j tight before r after
 unfolding Gives

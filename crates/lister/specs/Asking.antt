@@ -7,7 +7,6 @@ use Prim.Native.Nat.{ℕ, _≤_}
 use lib.ListN.{length}
 use Rattle.laws.specs.Rows.{over}
 use Rattle.model.specs.Limits as limit
-use Rattle.model.specs.Order.{Order}
 use Rattle.model.specs.Graph.{Graph, order, many, Sound}
 use Rattle.model.specs.Tables.{Earliest, Latest}
 use Rattle.model.specs.Refusals.{Rule, Flat, First, shape, output, unitless, cyclic, large-bound, late-bound}

@@ -2,7 +2,6 @@
 use mathlib.Core.Path.{_≡_}
 use mathlib.Core.List.{List, []}
 use Prim.Native.Nat.{ℕ, _+_, _<_, _≤_}
-use lib.ListN.{length}
 use Rattle.laws.specs.Rows.{at}
 use Rattle.model.specs.Graph.{Graph, edgesOf}
 use Rattle.model.specs.LawfulLaws.{runningFirst}

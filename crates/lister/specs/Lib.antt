@@ -1,3 +1,4 @@
 pub mod Fit
 pub mod Search
 pub mod Asking
+pub mod One

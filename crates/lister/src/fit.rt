@@ -130,7 +130,7 @@ fn kept(delays: &[u8], from: &[u16], to: &[u16], starts: &[u16], i: usize, e: us
     over(starts[a], delays[a], starts[b])
 }
 
-// Whether operation i stands where it may, given those placed before it.
+// Whether operation i stands where it may, given those placed before it. An operation keeps its unit for as long as its successors wait: its delay.
 pub fn fits(
     delays: &[u8],
     types: &[u8],

@@ -1,7 +1,6 @@
 // The search: operations are placed one by one, in the order of their numbers, and the rows are met in increasing order.
 use crate::fit::fits;
 use model::limits::OPERATIONS;
-ghost use mathlib.Core.Path.{_≡_};
 ghost use Prim.Native.Nat.{_≤_, _<_};
 ghost use lib.ListN.{length};
 ghost use Rattle.model.specs.Limits as limit;

@@ -1,13 +1,11 @@
 -- The test for a lawful schedule tells; its starts are from 1 to the bound and lie between ASAP and ALAP; unit use is bounded at every step where it is at every start.
-use mathlib.Core.Path.{_≡_, refl, sym, ap, subst}
-use mathlib.Core.Logic.{_⊎_, inl, inr, ⊎-elim}
-use mathlib.Core.Bool.{Bool, true, false}
+use mathlib.Core.Path.{_≡_}
+use mathlib.Core.Logic.{_⊎_, ⊎-elim}
 use mathlib.Core.List.{List}
 use Prim.Native.Nat.{ℕ, _+_, _≤_, _<_}
 use native.Mathlib.Omega.{arith}
-use lib.Dec.{leb}
 use lib.ListN.{length}
-use Rattle.laws.specs.Cases.{Tells, lt-or-le}
+use Rattle.laws.specs.Cases.{Tells}
 use Rattle.laws.specs.TellLaws.{tells-as, tells-le, tells-both, tells-every}
 use Rattle.laws.specs.Rows.{at}
 use Rattle.laws.specs.Count.{count, count-none}
@@ -15,8 +13,8 @@ use Rattle.laws.specs.Counting.{count-mono}
 use Rattle.laws.specs.Greatest.{Greatest, greatest}
 use Rattle.laws.specs.WordLaws.{Word}
 use Rattle.model.specs.Order.{source, target}
-use Rattle.model.specs.Graph.{Graph, order, many, edgesOf, delay, busyTime, typeOf, Sound}
-use Rattle.model.specs.Tables.{Keeps, Within, Earliest, Latest}
+use Rattle.model.specs.Graph.{Graph, order, many, edgesOf, delay, typeOf, Sound}
+use Rattle.model.specs.Tables.{Earliest, Latest}
 use Rattle.model.specs.Use.{runs, running, Lawful}
 use Rattle.model.specs.UseLaws.{Runs, runs-true, runs-yes, runs-no, runs-or-not}
 use Rattle.model.specs.Listing.{isLawful}
@@ -88,6 +86,7 @@ pub record InWindow (low high : List ℕ) (n : ℕ) (t : List ℕ) : Type 0 wher
   pub from : (i : ℕ) → i < n → at low i ≤ at t i
   pub to : (i : ℕ) → i < n → at t i ≤ at high i
 
+-- the earliest starts are below all that keep the order, the latest above all that also keep the bound
 pub lawful-in-window : (g : Graph) (units : List ℕ) (bound : ℕ) (early late t : List ℕ) → Earliest (order g) early → Latest (order g) bound late
     → Lawful g units bound t → InWindow early late (many g) t
 lawful-in-window g units bound early late t e l h = record {

@@ -37,4 +37,5 @@ pub mod ScheduleLaws
 pub mod LawfulLaws
 pub mod ListingLaws
 pub mod ListingCases
+pub mod ListingAnswers
 pub mod Theorems

@@ -1,28 +1,19 @@
 -- Demand 3: from first, asking each time for the next, gives the definition's list: each lawful schedule once, rising, and none left exactly when none is left.
 -- And each question has one answer.
-use mathlib.Core.Path.{_≡_, refl, sym, ap, subst, _∙_}
-use mathlib.Core.Logic.{_⊎_, inl, inr, ⊎-elim}
+use mathlib.Core.Path.{_≡_, refl, ap, subst}
+use mathlib.Core.Logic.{_⊎_, ⊎-elim}
 use mathlib.Core.Option.{Option, none, some}
-use mathlib.Core.List.{List, [], _∷_, _++_, List·Memᴰ·head, List·Memᴰ·tail, List·Memᴰ·not-nil, List·Memᴰ·cases-cons}
-use Prim.Native.Nat.{ℕ, _<_}
-use native.Mathlib.Omega.{arith}
+use mathlib.Core.List.{List, [], _∷_, List·Memᴰ·head, List·Memᴰ·tail, List·Memᴰ·not-nil, List·Memᴰ·cases-cons}
+use Prim.Native.Nat.{ℕ}
 use lib.ListN.{length}
 use Rattle.laws.specs.TellLaws.{tells-true}
 use Rattle.laws.specs.Words.{Before, words, keep}
 use Rattle.laws.specs.WordLaws.{Among, Rising, rising-head, rising-tail, compare, same-list, before-not-self, before-not-after, before-trans, words-in, words-all, words-rising, keep-in, keep-all, keep-rising, isBefore, is-before}
 use Rattle.model.specs.Graph.{Graph, order, many, Sound}
 use Rattle.model.specs.Use.{Lawful}
-use Rattle.model.specs.Refusals.{Rule, shape, output, unitless, cyclic, large-bound, late-bound}
-use Rattle.model.specs.RefusalLaws.{Ones, first-one, flat-one, ones-single, ones-append, shape-ones, output-ones, unitless-ones}
-use Rattle.model.specs.Answers.{numbered, RowAfter}
-use Rattle.model.specs.AnswerLaws.{numbered-one}
-use Rattle.model.specs.CycleLaws.{shown-one}
-use Rattle.model.specs.FrameLaws.{answered-one, answered-again, fills-one}
-use Rattle.model.specs.TableAnswers.{cyclic-ones, large-bound-ones, late-bound-ones}
+use Rattle.model.specs.RefusalLaws.{sound}
 use Rattle.model.specs.LawfulLaws.{is-lawful, lawful-word}
-use Rattle.model.specs.Listing.{isLawful, allLawful, Later, Least, NoneLeft, ManyWindows, ListerUneven, listerChecks, refusalIn, Ended, Gives, ListerAnswer, Asked, AskedAll}
-use Rattle.model.specs.declared.Listed.{Listed}
-use Rattle.model.specs.declared.Listed.the-variants as answers
+use Rattle.model.specs.Listing.{isLawful, allLawful, Later, Least, NoneLeft, Asked, AskedAll}
 
 module _ (g : Graph) (units : List ℕ) (bound : ℕ) where
   -- ---- one answer
@@ -52,6 +43,7 @@ module _ (g : Graph) (units : List ℕ) (bound : ℕ) where
       (asked-one r rest
       (subst (λ (w : List ℕ). Asked g units bound w rest) (least-one (some t) v u k l) s))
 
+  -- from the start on, too
   pub asked-all-one : (rows more : List (List ℕ)) → AskedAll g units bound rows → AskedAll g units bound more → rows ≡ more
   asked-all-one rows more (AskedAll.nothing n) (AskedAll.nothing m) = refl
   asked-all-one rows more (AskedAll.nothing n) (AskedAll.from {t = t} l s) = absurd (least-left none t l n)
@@ -68,6 +60,7 @@ module _ (g : Graph) (sound : Sound g) (units : List ℕ) (bound : ℕ) where
       let word = words-in (many g) bound t (kept .inside) in
       is-lawful g sound units bound t (word .long) .yes (kept .pass)
 
+  -- and all of them
   pub lawful-listed : (t : List ℕ) → Lawful g units bound t → Among t (allLawful g units bound)
   lawful-listed t h =
       keep-all (isLawful g units bound) (words (many g) bound) t
@@ -154,6 +147,7 @@ module _ (g : Graph) (sound : Sound g) (units : List ℕ) (bound : ℕ) (row : L
         (List·Memᴰ·cases-cons (all u h b));
   }
 
+  -- what is kept of the definition's list behind the row has that schedule in front
   pub next-gets : Gets g units bound row (keep (isBefore row) (allLawful g units bound))
   next-gets =
       gets _ (keep-rising (isBefore row) _ (listed-rising g sound units bound))
@@ -164,57 +158,3 @@ module _ (g : Graph) (sound : Sound g) (units : List ℕ) (bound : ℕ) (row : L
       (λ u h b.
       keep-all (isBefore row) (allLawful g units bound) u (lawful-listed g sound units bound u h)
       (tells-true (is-before (many g) row u long (h .long)) b))
-
--- ---- the lister's question has one answer
-lister-ones : (g : Graph) (units : List ℕ) (bound : ℕ) (asked : Option (List ℕ)) (room : ℕ) → Ones (listerChecks g units bound asked room)
-lister-ones g units bound asked room =
-    ones-append _ _
-    (ones-append _ _
-    (ones-append _ _ (ones-append _ _ (shape-ones g (ListerUneven g units asked)) (output-ones g room)) (unitless-ones g units))
-    (cyclic-ones (order g)))
-    (ones-append _ _ (ones-append _ _ (large-bound-ones bound) (late-bound-ones (order g) bound))
-    (ones-single _ (flat-one 10 (ManyWindows g bound))))
-
-none-some : {r : ℕ × ℕ} → _≡_ {A = Option (ℕ × ℕ)} none (some r) → ⊥
-none-some e = let z : _≡_ {A = ℕ} 0 1 = cc in omega arith
-
-some-one : {r s : ℕ × ℕ} → _≡_ {A = Option (ℕ × ℕ)} (some r) (some s) → r ≡ s
-some-one e = cc
-
-module _ (g : Graph) (units : List ℕ) (bound : ℕ) (asked : Option (List ℕ)) (out : List ℕ) where
-  abbrev checks : List Rule
-  checks = listerChecks g units bound asked (length out)
-
-  ones : Ones checks
-  ones = lister-ones g units bound asked (length out)
-
-  same-answer : (r s : Listed) (a b : List ℕ) → refusalIn r ≡ refusalIn s → ListerAnswer g units bound asked out r a → ListerAnswer g units bound asked out s b → r ≡ s
-  unfolding RowAfter Gives
-  same-answer answers.Found answers.Found a b e x y = refl
-  same-answer answers.Found answers.NoneLeft a b e x y = absurd (least-left g units bound asked _ (x .row .is) (y .row .none))
-  same-answer answers.Found (answers.Refused w) a b e x y = absurd (none-some e)
-  same-answer answers.NoneLeft answers.Found a b e x y = absurd (least-left g units bound asked _ (y .row .is) (x .row .none))
-  same-answer answers.NoneLeft answers.NoneLeft a b e x y = refl
-  same-answer answers.NoneLeft (answers.Refused w) a b e x y = absurd (none-some e)
-  same-answer (answers.Refused v) answers.Found a b e x y = absurd (none-some (sym e))
-  same-answer (answers.Refused v) answers.NoneLeft a b e x y = absurd (none-some (sym e))
-  same-answer (answers.Refused v) (answers.Refused w) a b e x y = ap answers.Refused (numbered-one v w (some-one e))
-
-  rows-one : (r : Listed) (a b : List ℕ) → ListerAnswer g units bound asked out r a → ListerAnswer g units bound asked out r b → a ≡ b
-  unfolding Gives
-  rows-one answers.Found a b x y =
-      answered-one (order g) checks out _ ones (shown-one (order g)) none none a b (fills-one _ out a b (least-one g units bound asked)) x y .1
-  rows-one answers.NoneLeft a b x y =
-      answered-one (order g) checks out _ ones (shown-one (order g)) none none a b (λ p q. p .kept ∙ sym (q .kept)) x y .1
-  rows-one (answers.Refused w) a b x y =
-      answered-one (order g) checks out (λ row. row ≡ out) ones (shown-one (order g)) (some (numbered w)) (some (numbered w)) a b (λ p q. p ∙ sym q)
-      (answered-again (order g) checks out _ (λ row. row ≡ out) (numbered w) a x)
-      (answered-again (order g) checks out _ (λ row. row ≡ out) (numbered w) b y)
-      .1
-
-  -- any two outcomes that the contract of `first` or `next` allows are equal
-  pub lister-answer-one : (r s : Listed) (a b : List ℕ) → ListerAnswer g units bound asked out r a → ListerAnswer g units bound asked out s b → (r ≡ s) × (a ≡ b)
-  lister-answer-one r s a b x y =
-      let refusals = first-one checks ones (refusalIn r) (refusalIn s) (x .first) (y .first) in
-      let same = same-answer r s a b refusals x y in
-      (same, rows-one r a b x (subst (λ (q : Listed). ListerAnswer g units bound asked out q b) (sym same) y))

@@ -1,9 +1,5 @@
 -- `lister::ask` meets its contract: what the parts answer, one after another.
-use Prim.Native.Nat.{ℕ, _+_, _-_, _≤_, _<_}
-use mathlib.Core.Path.{_≡_}
-use mathlib.Core.Logic.{⊎-elim}
-use native.Mathlib.Omega.{arith}
-use lib.ListN.{length}
+use Prim.Native.Nat.{_-_}
 use borrow.Author.Needs.{needs}
 use mathlib.Core.Path.{ap}
 use Rattle.model.specs.Answers.{refusalOf}

@@ -1,9 +1,5 @@
 -- `lister::earliest_starts` meets its contract: refusals 1 to 5 of `front`, 6 of `unit_fault`, 7 of `place`.
-use Prim.Native.Nat.{ℕ, _+_, _-_, _≤_, _<_}
-use mathlib.Core.Path.{_≡_}
-use mathlib.Core.Logic.{⊎-elim}
-use native.Mathlib.Omega.{arith}
-use lib.ListN.{length}
+use Prim.Native.Nat.{_-_}
 use borrow.Author.Needs.{needs}
 use Rattle.laws.specs.TellLaws.{on}
 use Rattle.model.specs.RefusalLaws.{closed}

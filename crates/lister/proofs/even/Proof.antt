@@ -1,10 +1,5 @@
 -- `lister::even` meets its contract: the two branches are the two facts.
-use Prim.Native.Nat.{ℕ, _+_, _-_, _≤_, _<_}
-use mathlib.Core.Path.{_≡_}
-use mathlib.Core.Logic.{⊎-elim}
-use native.Mathlib.Omega.{arith}
-use borrow.Author.Needs.{needs}
-use lib.ListN.{length}
+use Prim.Native.Nat.{_-_}
 use Rattle.laws.specs.Cases.{tells-yes, tells-no}
 use Rattle.lister.proofs.even.Statement.{statement}
 use Rattle.lister.proofs.even.Tie as tie

@@ -1,9 +1,6 @@
 -- `lister::first` meets its contract: it asks after no row.
-use Prim.Native.Nat.{ℕ, _+_, _-_, _≤_, _<_}
-use mathlib.Core.Path.{_≡_}
-use mathlib.Core.Logic.{⊎-elim}
+use Prim.Native.Nat.{_-_}
 use native.Mathlib.Omega.{arith}
-use lib.ListN.{length}
 use borrow.Author.Needs.{needs}
 use Rattle.lister.specs.Asking.{askedOf}
 use Rattle.lister.proofs.Asking.{matched-first}

@@ -1,9 +1,5 @@
 -- `lister::next` meets its contract: it asks after the row that is lent.
-use Prim.Native.Nat.{ℕ, _+_, _-_, _≤_, _<_}
-use mathlib.Core.Path.{_≡_}
-use mathlib.Core.Logic.{⊎-elim}
-use native.Mathlib.Omega.{arith}
-use lib.ListN.{length}
+use Prim.Native.Nat.{_-_}
 use borrow.Author.Needs.{needs}
 use Rattle.lister.specs.Asking.{askedOf}
 use Rattle.lister.proofs.Asking.{matched-next}

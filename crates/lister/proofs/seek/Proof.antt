@@ -1,9 +1,6 @@
 -- `lister::seek` meets its contract: the search answers for every row, and what it found is given.
-use Prim.Native.Nat.{ℕ, _+_, _-_, _≤_, _<_}
-use mathlib.Core.Path.{_≡_}
-use mathlib.Core.Logic.{⊎-elim}
+use Prim.Native.Nat.{_-_}
 use native.Mathlib.Omega.{arith}
-use lib.ListN.{length}
 use borrow.Author.Needs.{needs}
 use Rattle.lister.proofs.Turns.{sized-own, ready-none}
 use Rattle.lister.proofs.Whole.{sought}

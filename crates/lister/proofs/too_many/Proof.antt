@@ -1,10 +1,7 @@
 -- `lister::too_many` meets its contract: the product so far is at most the limit, so the next one fits; above the limit it stays above.
-use Prim.Native.Nat.{ℕ, _+_, _-_, _≤_, _<_}
-use mathlib.Core.Path.{_≡_}
-use mathlib.Core.Logic.{⊎-elim}
+use Prim.Native.Nat.{_-_}
 use native.Mathlib.Omega.{arith}
 use borrow.Author.Needs.{needs}
-use lib.ListN.{length}
 use Rattle.laws.specs.Cases.{tells-yes, tells-no}
 use Rattle.lister.proofs.Product.{Multiplied, multiplied-none, multiplied-fits, multiplied-step, multiplied-above, multiplied-end}
 use Rattle.lister.proofs.too_many.Statement.{statement}

@@ -1,9 +1,5 @@
 -- `lister::windows` meets its contract: refusals 8 and 9 by the bound and the latency, 10 by the product of the windows.
-use Prim.Native.Nat.{ℕ, _+_, _-_, _≤_, _<_}
-use mathlib.Core.Path.{_≡_}
-use mathlib.Core.Logic.{⊎-elim}
-use native.Mathlib.Omega.{arith}
-use lib.ListN.{length}
+use Prim.Native.Nat.{_-_}
 use borrow.Author.Needs.{needs}
 use Rattle.model.specs.Graph.{lent}
 use mathlib.Core.List.{[]}

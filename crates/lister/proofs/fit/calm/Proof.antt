@@ -1,9 +1,5 @@
 -- `fit::calm` meets its contract: where j is of another type or starts elsewhere nothing is asked, and `enough` tells otherwise.
-use Prim.Native.Nat.{ℕ, _+_, _-_, _≤_, _<_}
-use mathlib.Core.Path.{_≡_}
-use mathlib.Core.Logic.{⊎-elim}
-use native.Mathlib.Omega.{arith}
-use lib.ListN.{length}
+use Prim.Native.Nat.{_-_}
 use borrow.Author.Needs.{needs}
 use Rattle.laws.specs.Cases.{tells-yes}
 use Rattle.laws.specs.TellLaws.{tells-as}

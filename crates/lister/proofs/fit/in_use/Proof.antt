@@ -1,10 +1,6 @@
 -- `fit::in_use` meets its contract: the operations before i are counted.
-use Prim.Native.Nat.{ℕ, _+_, _-_, _≤_, _<_}
-use mathlib.Core.Path.{_≡_}
-use mathlib.Core.Logic.{⊎-elim}
-use native.Mathlib.Omega.{arith}
+use Prim.Native.Nat.{_-_}
 use borrow.Author.Needs.{needs}
-use lib.ListN.{length}
 use Rattle.lister.proofs.Counting.{Counted, counted-none, counted-step, counted-end}
 use Rattle.lister.proofs.fit.in_use.Statement.{statement}
 use Rattle.lister.proofs.fit.in_use.Tie as tie

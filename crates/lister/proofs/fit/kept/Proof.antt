@@ -1,9 +1,6 @@
 -- `fit::kept` meets its contract: an edge with an end past i is kept by default, and `over` tells of any other.
-use Prim.Native.Nat.{ℕ, _+_, _-_, _≤_, _<_}
-use mathlib.Core.Path.{_≡_}
-use mathlib.Core.Logic.{⊎-elim}
+use Prim.Native.Nat.{_-_}
 use native.Mathlib.Omega.{arith}
-use lib.ListN.{length}
 use borrow.Author.Needs.{needs}
 use Rattle.laws.specs.Cases.{tells-yes}
 use Rattle.laws.specs.TellLaws.{tells-as}

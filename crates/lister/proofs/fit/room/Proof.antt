@@ -1,10 +1,7 @@
 -- `fit::room` meets its contract: unit use is looked at where i starts and where others start within its run, and that is enough.
-use Prim.Native.Nat.{ℕ, _+_, _-_, _≤_, _<_}
-use mathlib.Core.Path.{_≡_}
-use mathlib.Core.Logic.{⊎-elim}
+use Prim.Native.Nat.{ℕ, _-_, _<_}
 use native.Mathlib.Omega.{arith}
 use borrow.Author.Needs.{needs}
-use lib.ListN.{length}
 use borrow.Author.Count.{below-none, below-more}
 use Rattle.laws.specs.Cases.{tells-yes, tells-no}
 use Rattle.lister.specs.Fit.{Calm}

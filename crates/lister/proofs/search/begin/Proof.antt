@@ -1,9 +1,5 @@
 -- `search::begin` meets its contract: the greater of the two where the row is tight, else the window's first.
-use Prim.Native.Nat.{ℕ, _+_, _-_, _≤_, _<_}
-use mathlib.Core.Path.{_≡_}
-use mathlib.Core.Logic.{⊎-elim}
-use native.Mathlib.Omega.{arith}
-use lib.ListN.{length}
+use Prim.Native.Nat.{_-_}
 use borrow.Author.Needs.{needs}
 use Rattle.laws.specs.Tests.{clash}
 use Rattle.lister.proofs.search.begin.Statement.{statement}

@@ -1,10 +1,5 @@
 -- `search::stays` meets its contract: a row stays tight only where it was, and the start is the entry of the row asked after.
-use Prim.Native.Nat.{ℕ, _+_, _-_, _≤_, _<_}
-use mathlib.Core.Path.{_≡_}
-use mathlib.Core.Logic.{⊎-elim}
-use native.Mathlib.Omega.{arith}
-use borrow.Author.Needs.{needs}
-use lib.ListN.{length}
+use Prim.Native.Nat.{_-_}
 use mathlib.Core.Path.{refl}
 use Rattle.laws.specs.Tests.{clash}
 use Rattle.lister.proofs.search.stays.Statement.{statement}

@@ -1,0 +1,187 @@
+-- What `first` and `next` answer is one answer; and asked from the first on, the answers list exactly the definition's list, to its end.
+use mathlib.Core.Path.{_≡_, refl, sym, ap, subst, _∙_}
+use mathlib.Core.Option.{Option, none, some}
+use mathlib.Core.List.{List, [], _∷_}
+use Prim.Native.Nat.{ℕ}
+use native.Mathlib.Omega.{arith}
+use lib.ListN.{length, take, drop}
+use lib.Seq.{take-at}
+use Rattle.model.specs.Graph.{Graph, order, many, Sound}
+use Rattle.model.specs.Refusals.{Rule, First, output, unitless, cyclic}
+use Rattle.model.specs.RefusalLaws.{Ones, first-none-append, sound, first-one, flat-one, ones-single, ones-append, shape-ones, output-ones, unitless-ones}
+use Rattle.model.specs.Answers.{numbered, RowAfter}
+use Rattle.model.specs.AnswerLaws.{numbered-one}
+use Rattle.model.specs.CycleLaws.{shown-one}
+use Rattle.model.specs.FrameLaws.{answered-one, answered-again, fills-one}
+use Rattle.model.specs.TableAnswers.{cyclic-ones, large-bound-ones, late-bound-ones}
+use Rattle.model.specs.Listing.{allLawful, Least, NoneLeft, ManyWindows, ListerUneven, listerChecks, refusalIn, Gives, ListerAnswer, Asked, AskedAll}
+use Rattle.model.specs.declared.Listed.{Listed}
+use Rattle.model.specs.declared.Listed.the-variants as answers
+use Rattle.model.specs.ListingLaws.{least-one, least-left, asked-all, asked-is}
+
+-- ---- the lister's question has one answer
+lister-ones : (g : Graph) (units : List ℕ) (bound : ℕ) (asked : Option (List ℕ)) (room : ℕ) → Ones (listerChecks g units bound asked room)
+lister-ones g units bound asked room =
+    ones-append _ _
+    (ones-append _ _
+    (ones-append _ _ (ones-append _ _ (shape-ones g (ListerUneven g units asked)) (output-ones g room)) (unitless-ones g units))
+    (cyclic-ones (order g)))
+    (ones-append _ _ (ones-append _ _ (large-bound-ones bound) (late-bound-ones (order g) bound))
+    (ones-single _ (flat-one 10 (ManyWindows g bound))))
+
+none-some : {r : ℕ × ℕ} → _≡_ {A = Option (ℕ × ℕ)} none (some r) → ⊥
+none-some e = let z : _≡_ {A = ℕ} 0 1 = cc in omega arith
+
+some-one : {r s : ℕ × ℕ} → _≡_ {A = Option (ℕ × ℕ)} (some r) (some s) → r ≡ s
+some-one e = cc
+
+module _ (g : Graph) (units : List ℕ) (bound : ℕ) (asked : Option (List ℕ)) (out : List ℕ) where
+  -- refusals 1 to 10 of this question
+  abbrev checks : List Rule
+  checks = listerChecks g units bound asked (length out)
+
+  ones : Ones checks
+  ones = lister-ones g units bound asked (length out)
+
+  same-answer : (r s : Listed) (a b : List ℕ) → refusalIn r ≡ refusalIn s → ListerAnswer g units bound asked out r a → ListerAnswer g units bound asked out s b → r ≡ s
+  unfolding RowAfter Gives
+  same-answer answers.Found answers.Found a b e x y = refl
+  same-answer answers.Found answers.NoneLeft a b e x y = absurd (least-left g units bound asked _ (x .row .is) (y .row .none))
+  same-answer answers.Found (answers.Refused w) a b e x y = absurd (none-some e)
+  same-answer answers.NoneLeft answers.Found a b e x y = absurd (least-left g units bound asked _ (y .row .is) (x .row .none))
+  same-answer answers.NoneLeft answers.NoneLeft a b e x y = refl
+  same-answer answers.NoneLeft (answers.Refused w) a b e x y = absurd (none-some e)
+  same-answer (answers.Refused v) answers.Found a b e x y = absurd (none-some (sym e))
+  same-answer (answers.Refused v) answers.NoneLeft a b e x y = absurd (none-some (sym e))
+  same-answer (answers.Refused v) (answers.Refused w) a b e x y = ap answers.Refused (numbered-one v w (some-one e))
+
+  rows-one : (r : Listed) (a b : List ℕ) → ListerAnswer g units bound asked out r a → ListerAnswer g units bound asked out r b → a ≡ b
+  unfolding Gives
+  rows-one answers.Found a b x y =
+      answered-one (order g) checks out _ ones (shown-one (order g)) none none a b (fills-one _ out a b (least-one g units bound asked)) x y .1
+  rows-one answers.NoneLeft a b x y =
+      answered-one (order g) checks out _ ones (shown-one (order g)) none none a b (λ p q. p .kept ∙ sym (q .kept)) x y .1
+  rows-one (answers.Refused w) a b x y =
+      answered-one (order g) checks out (λ row. row ≡ out) ones (shown-one (order g)) (some (numbered w)) (some (numbered w)) a b (λ p q. p ∙ sym q)
+      (answered-again (order g) checks out _ (λ row. row ≡ out) (numbered w) a x)
+      (answered-again (order g) checks out _ (λ row. row ≡ out) (numbered w) b y)
+      .1
+
+  -- any two outcomes that the contract of `first` or `next` allows are equal
+  pub lister-answer-one : (r s : Listed) (a b : List ℕ) → ListerAnswer g units bound asked out r a → ListerAnswer g units bound asked out s b → (r ≡ s) × (a ≡ b)
+  lister-answer-one r s a b x y =
+      let refusals = first-one checks ones (refusalIn r) (refusalIn s) (x .first) (y .first) in
+      let same = same-answer r s a b refusals x y in
+      (same, rows-one r a b x (subst (λ (q : Listed). ListerAnswer g units bound asked out q b) (sym same) y))
+
+-- ---- demand 3, said of the answers
+-- what the answers list from a question on: nothing where none is left; else the schedule given, and what the questions after it list
+pub data Lists (g : Graph) (units : List ℕ) (bound : ℕ) : Option (List ℕ) → List (List ℕ) → Type 0 where
+  stops : {asked : Option (List ℕ)} {out after : List ℕ} → ListerAnswer g units bound asked out answers.NoneLeft after → Lists g units bound asked []
+  goes : {asked : Option (List ℕ)} {out after : List ℕ} {rows : List (List ℕ)} → ListerAnswer g units bound asked out answers.Found after
+      → Lists g units bound (some (take (many g) after)) rows → Lists g units bound asked (take (many g) after ∷ rows)
+
+module _ {g : Graph} {units : List ℕ} {bound : ℕ} {asked : Option (List ℕ)} {out after : List ℕ} where
+  -- what is given is the least schedule
+  pub answer-least : ListerAnswer g units bound asked out answers.Found after → Least g units bound asked (take (many g) after)
+  unfolding RowAfter Gives
+  answer-least x =
+      let row = x .row .row in
+      let long = x .row .is .lawful .long in
+      let front : take (many g) after ≡ row =
+      ap (take (many g)) (x .row .written) ∙ take-at row (drop (length row) out) (many g) long in
+      subst (λ (t : List ℕ). Least g units bound asked t) (sym front) (x .row .is)
+
+  -- none left means that none is left
+  pub answer-left : ListerAnswer g units bound asked out answers.NoneLeft after → NoneLeft g units bound asked
+  unfolding RowAfter Gives
+  answer-left x = x .row .none
+
+-- a question that is not refused is asked of a sound graph
+pub answer-sound : (g : Graph) (units : List ℕ) (bound : ℕ) (asked : Option (List ℕ)) (out after : List ℕ) (r : Listed) → refusalIn r ≡ none
+    → ListerAnswer g units bound asked out r after → Sound g
+answer-sound g units bound asked out after r e x =
+    let passed = subst (λ (refusal : Option (ℕ × ℕ)). First (listerChecks g units bound asked (length out)) refusal) e (x .first) in
+    let front = first-none-append _ _ passed .0 in
+    let six = first-none-append _ (cyclic (order g)) front .0 in
+    let five = first-none-append _ (unitless g units) six .0 in
+    sound g (ListerUneven g units asked) (first-none-append _ (output g (length out)) five .0)
+
+module _ (g : Graph) (units : List ℕ) (bound : ℕ) where
+  lists-asked : {t : List ℕ} {rows : List (List ℕ)} → Lists g units bound (some t) rows → Asked g units bound t (t ∷ rows)
+  lists-asked (Lists.stops x) = Asked.last (answer-left x)
+  lists-asked (Lists.goes x l) = Asked.then (answer-least x) (lists-asked l)
+
+  lists-sound : {asked : Option (List ℕ)} {rows : List (List ℕ)} → Lists g units bound asked rows → Sound g
+  lists-sound (Lists.stops x) = answer-sound g units bound _ _ _ answers.NoneLeft refl x
+  lists-sound (Lists.goes x l) = answer-sound g units bound _ _ _ answers.Found refl x
+
+  lists-all : {rows : List (List ℕ)} → Lists g units bound none rows → AskedAll g units bound rows
+  lists-all (Lists.stops x) = AskedAll.nothing (answer-left x)
+  lists-all (Lists.goes x l) = AskedAll.from (answer-least x) (lists-asked l)
+
+  -- from first, asking each time for the next until none is left: the answers list exactly the definition's list
+  pub lists-is : (rows : List (List ℕ)) → Lists g units bound none rows → rows ≡ allLawful g units bound
+  lists-is rows l = asked-is g (lists-sound l) units bound rows (lists-all l)
+
+-- an answer to a question that is not refused
+pub record Reply (g : Graph) (units : List ℕ) (bound : ℕ) (asked : Option (List ℕ)) : Type 0 where
+  pub out : List ℕ
+  pub listed : Listed
+  pub after : List ℕ
+  pub answer : ListerAnswer g units bound asked out listed after
+  pub passes : refusalIn listed ≡ none
+
+-- the row asked after, if one is, has n entries
+unfoldable pub Entries : ℕ → Option (List ℕ) → Type 0
+Entries n none = Unit {0}
+Entries n (some row) = length row ≡ n
+
+-- where every question after none or after a row of n entries is answered and not refused, the answers list the definition's list to its end
+module _ (g : Graph) (units : List ℕ) (bound : ℕ) (reply : (asked : Option (List ℕ)) → Entries (many g) asked → Reply g units bound asked) where
+  goes-as : {asked : Option (List ℕ)} {out after u : List ℕ} {rows : List (List ℕ)} → take (many g) after ≡ u
+      → ListerAnswer g units bound asked out answers.Found after → Lists g units bound (some u) rows → Lists g units bound asked (u ∷ rows)
+  goes-as {asked} {rows = rows} e x l =
+      subst (λ (w : List ℕ). Lists g units bound asked (w ∷ rows)) e
+      (Lists.goes x (subst (λ (w : List ℕ). Lists g units bound (some w) rows) (sym e) l))
+
+  -- where there is a least schedule it is found
+  finds : (asked : Option (List ℕ)) {u : List ℕ} {rows : List (List ℕ)} → Least g units bound asked u → Lists g units bound (some u) rows
+      → (out : List ℕ) (r : Listed) (after : List ℕ) → ListerAnswer g units bound asked out r after → refusalIn r ≡ none → Lists g units bound asked (u ∷ rows)
+  finds asked {u} least l out answers.Found after x e = goes-as (least-one g units bound asked _ u (answer-least x) least) x l
+  finds asked {u} least l out answers.NoneLeft after x e = absurd (least-left g units bound asked u least (answer-left x))
+  finds asked least l out (answers.Refused why) after x e = absurd (none-some (sym e))
+
+  -- and where none is left it is said
+  ends : (asked : Option (List ℕ)) → NoneLeft g units bound asked
+      → (out : List ℕ) (r : Listed) (after : List ℕ) → ListerAnswer g units bound asked out r after → refusalIn r ≡ none → Lists g units bound asked []
+  ends asked n out answers.Found after x e = absurd (least-left g units bound asked _ (answer-least x) n)
+  ends asked n out answers.NoneLeft after x e = Lists.stops x
+  ends asked n out (answers.Refused why) after x e = absurd (none-some (sym e))
+
+  found : (asked : Option (List ℕ)) {u : List ℕ} {rows : List (List ℕ)} → Entries (many g) asked → Least g units bound asked u → Lists g units bound (some u) rows → Lists g units bound asked (u ∷ rows)
+  found asked long least l = let r = reply asked long in finds asked least l (r .out) (r .listed) (r .after) (r .answer) (r .passes)
+
+  ended : (asked : Option (List ℕ)) → Entries (many g) asked → NoneLeft g units bound asked → Lists g units bound asked []
+  ended asked long n = let r = reply asked long in ends asked n (r .out) (r .listed) (r .after) (r .answer) (r .passes)
+
+  lists-from : (asked : Option (List ℕ)) {u : List ℕ} {rows : List (List ℕ)} → Entries (many g) asked → Least g units bound asked u
+      → Asked g units bound u rows → Lists g units bound asked rows
+  unfolding Entries
+  lists-from asked long least (Asked.last {t = u} n) = found asked long least (ended (some u) (least .lawful .long) n)
+  lists-from asked long least (Asked.then {t = u} next r) = found asked long least (lists-from (some u) (least .lawful .long) next r)
+
+  lists-rows : {rows : List (List ℕ)} → AskedAll g units bound rows → Lists g units bound none rows
+  unfolding Entries
+  lists-rows (AskedAll.nothing n) = ended none tt n
+  lists-rows (AskedAll.from least r) = lists-from none tt least r
+
+  sound-graph : Sound g
+  unfolding Entries
+  sound-graph =
+      let r = reply none tt in
+      answer-sound g units bound none (r .out) (r .after) (r .listed) (r .passes) (r .answer)
+
+  -- each lawful schedule once, rising, and none left exactly when none is left
+  pub lists-exactly : Lists g units bound none (allLawful g units bound)
+  lists-exactly = lists-rows (asked-all g sound-graph units bound)
