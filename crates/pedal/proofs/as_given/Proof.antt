@@ -1,0 +1,46 @@
+-- `as_given` says the answer in numbers: each case by its own.
+use Prim.Native.Nat.{ℕ}
+use mathlib.Core.Path.{_≡_, sym, ap, ap₂, _∙_}
+use Rattle.pedal.specs.Face.{givenOf}
+use borrow.Author.Needs.{needs}
+use Rattle.pedal.proofs.as_given.Statement.{statement}
+use Rattle.pedal.proofs.as_given.Tie as tie
+
+enum-told : tie.Need-enum-told
+enum-told c = search needs
+
+enum-told-2 : tie.Need-enum-told-2
+enum-told-2 c = search needs
+
+enum-known-answer : tie.Need-enum-known-answer
+enum-known-answer c = search needs
+
+number-requires : tie.Need-number-requires
+number-requires c κs = search needs
+
+place-requires : tie.Need-place-requires
+place-requires c κs = search needs
+
+returns : tie.Need-returns
+returns c = sym (ap givenOf (c .enum-told .given .1))
+
+returns-2 : tie.Need-returns-2
+returns-2 c = sym (ap givenOf (c .enum-told2 .given .1))
+
+returns-3 : tie.Need-returns-3
+returns-3 c =
+    ap₂ (λ (n p : ℕ). record { refusal = n; place = p; found = 0 }) (c .before .number .ensures) (c .place .ensures)
+    ∙ sym (ap givenOf (c .before .before .before .answer .given .1))
+
+pub as-given-spec : {M : Type 1} → statement M
+as-given-spec =
+    tie.close
+    (tie.spec
+    enum-told
+    enum-told-2
+    enum-known-answer
+    number-requires
+    place-requires
+    returns
+    returns-2
+    returns-3)

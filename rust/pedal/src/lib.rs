@@ -1,0 +1,61 @@
+//! A safe face over the proved scheduler: earliest and latest starts, mobility, list schedules,
+//! a checker, peak use, all lawful schedules, and views of two channels' tables.
+//!
+//! The answers come from the proved library; what stands above it here (the names, the words of
+//! a refusal, the C boundary's declarations) is plain Rust.
+//!
+//! ```
+//! use pedal::{Finding, GraphBuilder};
+//!
+//! # fn main() -> Result<(), Box<dyn std::error::Error>> {
+//! let mut builder = GraphBuilder::new();
+//! builder.kind("mul")?.kind("alu")?;
+//! builder.operation("a", "mul", 2)?.operation("b", "mul", 2)?;
+//! builder.operation("sum", "alu", 1)?;
+//! builder.edge("a", "sum")?.edge("b", "sum")?;
+//! let graph = builder.build();
+//!
+//! let schedule = graph.list(&[1, 1])?;
+//! assert_eq!(schedule.starts, [1, 3, 5]);
+//! assert_eq!(schedule.latency, 5);
+//! assert_eq!(graph.check(&[1, 1], 5, &schedule.starts)?, Finding::Lawful);
+//! assert_eq!(graph.schedules(&[1, 1], 5)?.count(), 2);
+//!
+//! let refusal = graph.alap(2).unwrap_err();
+//! assert_eq!(refusal.to_string(), "refusal 9: the bound 2 is below the ASAP latency 3");
+//! # Ok(())
+//! # }
+//! ```
+
+#![warn(missing_docs)]
+
+pub mod ffi;
+
+mod builder;
+mod graph;
+mod questions;
+mod refusal;
+mod schedules;
+mod state;
+#[cfg(test)]
+mod tests;
+mod view;
+
+pub use builder::{GraphBuilder, NameError};
+pub use graph::Graph;
+pub use questions::{Finding, Schedule};
+pub use refusal::Refusal;
+pub use schedules::Schedules;
+pub use state::State;
+pub use view::view;
+
+/// The most operations of a graph, and the starts of a state.
+pub const MOST_OPERATIONS: usize = ffi::PEDAL_OPERATIONS;
+/// The most edges of a graph.
+pub const MOST_EDGES: usize = 256;
+/// The most types of a graph.
+pub const MOST_KINDS: usize = ffi::PEDAL_KINDS;
+/// The longest delay of an operation; the shortest is 1.
+pub const LONGEST_DELAY: u8 = 16;
+/// The largest latency bound, and the last step at which a state can be advanced.
+pub const LAST_STEP: usize = 1024;

@@ -1,0 +1,323 @@
+//! The scope paper's cases and refusals through the safe face.
+
+use std::error::Error;
+
+use crate::{view, Finding, Graph, GraphBuilder, NameError, Refusal, State};
+
+/// The edges of the eleven-operation graph, by the numbers in the operations' names.
+const ELEVEN_EDGES: [(usize, usize); 8] = [
+    (1, 3),
+    (2, 3),
+    (3, 4),
+    (4, 5),
+    (6, 7),
+    (7, 5),
+    (8, 9),
+    (10, 11),
+];
+
+/// The eleven-operation graph, by names.
+fn eleven() -> Graph {
+    let mut builder = GraphBuilder::new();
+    builder.kind("mul").unwrap().kind("alu").unwrap();
+    for number in 1..=11 {
+        let kind = match number {
+            1 | 2 | 3 | 6 | 7 | 8 => "mul",
+            _ => "alu",
+        };
+        builder.operation(&format!("v{number}"), kind, 1).unwrap();
+    }
+    for (i, j) in ELEVEN_EDGES {
+        builder.edge(&format!("v{i}"), &format!("v{j}")).unwrap();
+    }
+    builder.build()
+}
+
+/// Operations of one type and one delay, by numbers.
+fn uniform(count: usize, delay: u8, edges: &[(u16, u16)]) -> Graph {
+    let from: Vec<u16> = edges.iter().map(|edge| edge.0).collect();
+    let to: Vec<u16> = edges.iter().map(|edge| edge.1).collect();
+    Graph::new(vec![delay; count], vec![0; count], 1, from, to)
+}
+
+/// All schedules of a graph.
+fn all(graph: &Graph, units: &[u8], bound: usize) -> Vec<Vec<u16>> {
+    graph.schedules(units, bound).unwrap().collect()
+}
+
+/// The reason of a refusal, with its number.
+fn said<T: std::fmt::Debug>(answer: Result<T, Refusal>) -> String {
+    answer.unwrap_err().to_string()
+}
+
+/// Cases 1 and 2: tables.
+#[test]
+fn tables() {
+    let graph = eleven();
+    let early = [1, 1, 2, 3, 4, 1, 2, 1, 2, 1, 2];
+    assert_eq!(graph.asap().unwrap(), early);
+    assert_eq!(graph.latency(&early), 4);
+    let late = [1, 1, 2, 3, 4, 2, 3, 3, 4, 3, 4];
+    assert_eq!(graph.alap(4).unwrap(), late);
+    let free = [0, 0, 0, 0, 0, 1, 1, 2, 2, 2, 2];
+    assert_eq!(graph.mobility(4).unwrap(), free);
+    assert_eq!(graph.alap(3).unwrap_err().number, 9);
+    assert_eq!(graph.mobility(3).unwrap_err().number, 9);
+}
+
+/// Case 3: the list schedule, at once and watched.
+#[test]
+fn list_schedule() {
+    let graph = eleven();
+    let schedule = graph.list(&[2, 2]).unwrap();
+    assert_eq!(schedule.starts, [1, 1, 2, 3, 4, 2, 3, 3, 4, 1, 2]);
+    assert_eq!(schedule.latency, 4);
+    let mut state = State::fresh().advance(&graph, &[2, 2]).unwrap();
+    assert_eq!(state.step, 2);
+    assert_eq!(state.starts[..11], [1, 1, 0, 0, 0, 0, 0, 0, 0, 1, 0]);
+    for _ in 1..1024 {
+        state = state.advance(&graph, &[2, 2]).unwrap();
+    }
+    assert_eq!(state.starts[..11], schedule.starts);
+    assert_eq!(state.step, 5);
+}
+
+/// Cases 6 and 7: the cycle, by numbers, whether or not a row was lent.
+#[test]
+fn cycles() {
+    let ring = uniform(3, 1, &[(0, 1), (1, 2), (2, 0)]);
+    let refusal = ring.asap().unwrap_err();
+    assert_eq!((refusal.number, refusal.place), (7, 3));
+    assert_eq!(refusal.cycle, Some(vec![0, 1, 2]));
+    let tailed = uniform(3, 1, &[(1, 2), (2, 1), (1, 0)]);
+    for refusal in [
+        tailed.asap().unwrap_err(),
+        tailed.alap(5).unwrap_err(),
+        tailed.mobility(5).unwrap_err(),
+        tailed.list(&[1]).unwrap_err(),
+        tailed.schedules(&[1], 5).unwrap_err(),
+        tailed.check(&[1], 5, &[1, 1, 1]).unwrap_err(),
+        tailed.peak(&[1, 1, 1]).unwrap_err(),
+        State::fresh().advance(&tailed, &[1]).unwrap_err(),
+    ] {
+        assert_eq!((refusal.number, refusal.place), (7, 2));
+        assert_eq!(refusal.cycle, Some(vec![1, 2]));
+    }
+}
+
+/// Cases 8 to 11: whole lists.
+#[test]
+fn lists() {
+    assert_eq!(all(&uniform(0, 1, &[]), &[0], 0), [[0u16; 0]]);
+    let pair = uniform(2, 1, &[]);
+    assert_eq!(all(&pair, &[1], 2), [[1, 2], [2, 1]]);
+    assert_eq!(all(&pair, &[2], 2), [[1, 1], [1, 2], [2, 1], [2, 2]]);
+    let chain = uniform(2, 1, &[(0, 1)]);
+    assert_eq!(all(&chain, &[2], 3), [[1, 2], [1, 3], [2, 3]]);
+    assert!(all(&uniform(3, 1, &[]), &[1], 2).is_empty());
+    assert_eq!(all(&eleven(), &[2, 2], 5).len(), 880);
+}
+
+/// The iterator stays at its end.
+#[test]
+fn listing_ends_once() {
+    let pair = uniform(2, 1, &[]);
+    let mut schedules = pair.schedules(&[1], 2).unwrap();
+    assert_eq!(schedules.by_ref().count(), 2);
+    assert_eq!(schedules.next(), None);
+}
+
+/// Cases 12 and 13: every finding, and peak use.
+#[test]
+fn findings() {
+    let single = uniform(1, 2, &[]);
+    let untimely = Finding::Untimely { operation: 0 };
+    assert_eq!(single.check(&[1], 2, &[1]), Ok(Finding::Lawful));
+    assert_eq!(single.check(&[1], 1, &[1]), Ok(untimely));
+    let pair = uniform(2, 2, &[]);
+    let over_use = Finding::OverUse { step: 2, kind: 0 };
+    assert_eq!(pair.check(&[1], 4, &[1, 2]), Ok(over_use));
+    assert_eq!(pair.check(&[1], 4, &[1, 3]), Ok(Finding::Lawful));
+    assert_eq!(pair.peak(&[1, 2]), Ok([2, 0, 0, 0]));
+    assert_eq!(pair.peak(&[1, 3]), Ok([1, 0, 0, 0]));
+    let chain = uniform(2, 2, &[(0, 1)]);
+    let broken = Finding::Broken { edge: 0 };
+    assert_eq!(chain.check(&[2], 4, &[1, 2]), Ok(broken));
+}
+
+/// Case 14: the lister's limit.
+#[test]
+fn most_rows() {
+    assert!(uniform(19, 1, &[]).schedules(&[19], 2).is_ok());
+    let refusal = uniform(20, 1, &[]).schedules(&[20], 2).unwrap_err();
+    assert_eq!((refusal.number, refusal.place), (10, 0));
+}
+
+/// A view is a part of the chosen table itself.
+#[test]
+fn views() {
+    let (a, b) = ([1, 2, 3], [1, 2, 3, 4]);
+    let part = view(&a, &b, 0, 1, 2).unwrap();
+    assert!(std::ptr::eq(part, &a[1..3]));
+    let part = view(&a, &b, 1, 1, 3).unwrap();
+    assert!(std::ptr::eq(part, &b[1..4]));
+    assert_eq!(view(&a, &b, 0, 3, 0), Ok(&a[3..]));
+    assert_eq!(view(&a, &b, 0, 1, 3).unwrap_err().number, 13);
+    assert_eq!(view(&a, &b, 1, usize::MAX, 2).unwrap_err().number, 13);
+    assert_eq!(view(&a, &b, 2, 0, 0).unwrap_err().number, 12);
+}
+
+/// Refusals 1 to 4 in words, by numbers.
+#[test]
+fn form_in_words() {
+    let large = uniform(65, 1, &[]);
+    assert_eq!(
+        said(large.asap()),
+        "refusal 1: more than 64 operations, 256 edges or 4 types: operations 65, edges 0, \
+         types 1"
+    );
+    let uneven = Graph::new([1, 1], [0], 1, [], []);
+    assert_eq!(
+        said(uneven.asap()),
+        "refusal 2: rows that must match differ in length: types 1, delays 2"
+    );
+    let slow = Graph::new([1, 17], [0, 0], 2, [], []);
+    assert_eq!(
+        said(slow.asap()),
+        "refusal 3: operation 1: the delay is outside 1 to 16, or its type is not below 2 (delay \
+         17, type 0)"
+    );
+    let loose = uniform(2, 1, &[(0, 1), (1, 2)]);
+    assert_eq!(
+        said(loose.asap()),
+        "refusal 4: edge 1 (1 -> 2): an end is not below 2, the number of operations"
+    );
+}
+
+/// Refusal 2 names the row that a question lent.
+#[test]
+fn lengths_in_words() {
+    let pair = uniform(2, 1, &[]);
+    let words = "refusal 2: rows that must match differ in length";
+    assert_eq!(
+        said(pair.list(&[1, 1])),
+        format!("{words}: units 2, types of unit 1")
+    );
+    assert_eq!(
+        said(pair.check(&[1], 4, &[1])),
+        format!("{words}: starts 1, operations 2")
+    );
+    assert_eq!(
+        said(pair.peak(&[])),
+        format!("{words}: starts 0, operations 2")
+    );
+    let uneven = Graph::new([1, 1], [0, 0], 1, [0], []);
+    assert_eq!(said(uneven.asap()), format!("{words}: to 0, from 1"));
+}
+
+/// Refusals 3, 6 and 7 speak of names.
+#[test]
+fn names_in_words() {
+    let mut builder = GraphBuilder::new();
+    builder.kind("mul").unwrap().kind("alu").unwrap();
+    builder.operation("v1", "mul", 1).unwrap();
+    builder.operation("v2", "alu", 1).unwrap();
+    builder.edge("v1", "v2").unwrap().edge("v2", "v1").unwrap();
+    let ring = builder.clone().build();
+    assert_eq!(
+        said(ring.asap()),
+        "refusal 7: the graph has a cycle: v1 -> v2 -> v1"
+    );
+    assert_eq!(
+        said(ring.list(&[1, 0])),
+        "refusal 6: type alu is in use and has no unit"
+    );
+    builder.operation("v4", "alu", 0).unwrap();
+    assert_eq!(
+        said(builder.build().asap()),
+        "refusal 3: operation v4: the delay is outside 1 to 16, or its type is not below 2 \
+         (delay 0, type 1)"
+    );
+}
+
+/// Refusals 8 to 11 in words.
+#[test]
+fn bounds_in_words() {
+    let graph = eleven();
+    assert_eq!(
+        said(graph.alap(1025)),
+        "refusal 8: the bound 1025 is above 1024"
+    );
+    assert_eq!(
+        said(graph.mobility(3)),
+        "refusal 9: the bound 3 is below the ASAP latency 4"
+    );
+    assert_eq!(
+        said(graph.schedules(&[2, 2], 40)),
+        "refusal 10: the product of (mobility + 1) over all operations exceeds 1000000; a lower \
+         bound leaves fewer schedules"
+    );
+    let mut state = State::fresh();
+    state.step = 0;
+    assert_eq!(
+        said(state.advance(&graph, &[2, 2])),
+        "refusal 11: the state has an operation unplaced and its step 0 is outside 1 to 1024"
+    );
+}
+
+/// Refusals 12 and 13 in words.
+#[test]
+fn views_in_words() {
+    assert_eq!(
+        said(view(&[], &[], 2, 0, 0)),
+        "refusal 12: channel 2 is neither 0 nor 1"
+    );
+    assert_eq!(
+        said(view(&[1], &[1, 2], 1, 1, 2)),
+        "refusal 13: first + count (1 + 2) is past the end of the chosen table, which has 2 \
+         entries"
+    );
+}
+
+/// A refusal is an error like any other.
+#[test]
+fn refusal_is_an_error() {
+    let error: Box<dyn Error> = Box::new(eleven().alap(3).unwrap_err());
+    assert!(error.to_string().starts_with("refusal 9: "));
+}
+
+/// Names unknown or used twice are errors, and leave the builder as it was.
+#[test]
+fn wrong_names() {
+    let mut builder = GraphBuilder::new();
+    builder.kind("mul").unwrap();
+    builder.operation("v1", "mul", 1).unwrap();
+    let before = builder.clone().build();
+    let unknown = NameError::UnknownKind("alu".to_string());
+    assert_eq!(builder.operation("v2", "alu", 1).unwrap_err(), unknown);
+    let twice = NameError::KindTwice("mul".to_string());
+    assert_eq!(builder.kind("mul").unwrap_err(), twice);
+    let twice = NameError::OperationTwice("v1".to_string());
+    assert_eq!(builder.operation("v1", "mul", 2).unwrap_err(), twice);
+    let unknown = NameError::UnknownOperation("v3".to_string());
+    assert_eq!(builder.edge("v1", "v3").unwrap_err(), unknown);
+    assert_eq!(builder.edge("v3", "v1").unwrap_err(), unknown);
+    assert_eq!(unknown.to_string(), "operation v3 is unknown");
+    assert_eq!(builder.build(), before);
+}
+
+/// More names than numbers are an error, and no number is used twice.
+#[test]
+fn too_many_names() {
+    let mut builder = GraphBuilder::new();
+    for number in 0..256 {
+        builder.kind(&format!("k{number}")).unwrap();
+    }
+    assert_eq!(builder.kind("more").unwrap_err(), NameError::TooManyKinds);
+    for number in 0..=65535 {
+        builder.operation(&format!("v{number}"), "k0", 1).unwrap();
+    }
+    let error = builder.operation("more", "k0", 1).unwrap_err();
+    assert_eq!(error, NameError::TooManyOperations);
+    assert_eq!(builder.build().asap().unwrap_err().number, 1);
+}
