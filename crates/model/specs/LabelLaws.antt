@@ -5,7 +5,7 @@ use mathlib.Core.List.{List}
 use Prim.Native.Nat.{ℕ, zero, suc, _+_, _-_, _≤_, _<_}
 use native.Mathlib.Nat.{not-suc-le-zero}
 use native.Mathlib.Omega.{arith}
-use lib.ListN.{length, set}
+use lib.ListN.{length, set, replicate, length-replicate, getD-replicate}
 use lib.Seq.{getD-set-same, getD-set-other}
 use Rattle.laws.specs.Cases.{same-or-not, lt-or-le}
 use Rattle.laws.specs.Rows.{at, past}
@@ -14,7 +14,7 @@ use Rattle.model.specs.Order.{Order, ordered, turned, Closed, Edge, Walk
 use Rattle.model.specs.Graph.{Graph, order, many, edgesOf}
 use Rattle.model.specs.Tables.{Keeps, Earliest}
 use Rattle.model.specs.Placing.{Placing}
-use Rattle.model.specs.PlacingLaws.{placing-done, placing-cyclic}
+use Rattle.model.specs.PlacingLaws.{placing-done, placing-cyclic, placing-exists}
 use Rattle.model.specs.Rule.{Chain, alone, then, Labels}
 
 -- two rows of labels agree
@@ -171,3 +171,16 @@ module _ (g : Graph) (c : Closed (order g)) (ones : List ℕ) where
         let around = placing-cyclic ones-closed h n in
         absurd (free (record { operation = around .operation; around = walk-back (around .around) })))
         (same-or-not r (length ones))
+
+-- the labels of a graph
+pub record LabelRow (g : Graph) : Type 0 where
+  pub row : List ℕ
+  pub are : Labels g row
+
+-- where there is no cycle there are labels
+pub labels-exist : (g : Graph) → Closed (order g) → (Cyclic (order g) → ⊥) → LabelRow g
+labels-exist g c free =
+    let n = many g in
+    let ones : Ones n (replicate n 1) = record { long = length-replicate {A = ℕ} n 1; each = λ i l. getD-replicate n i 1 0 l } in
+    let p = placing-exists (ones-closed g c (replicate n 1) ones) in
+    record { row = p .row; are = labels-placed g c (replicate n 1) ones free (p .row) (p .number) (p .is) }

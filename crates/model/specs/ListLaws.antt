@@ -1,5 +1,4 @@
--- The list schedule: it has one value, it is lawful for its units at its own latency, that latency lies between the ASAP latency and the
--- sum of all delays, and as many advances from fresh as there are steps give it.
+-- The list schedule: it has one value, is lawful at its own latency, which lies between the ASAP latency and the sum of all delays, and is there in time.
 use mathlib.Core.Path.{_≡_, refl, sym, ap, subst, _∙_}
 use mathlib.Core.Logic.{⊎-elim}
 use mathlib.Core.List.{List}
@@ -157,11 +156,13 @@ module _ (g : Graph) (sound : Sound g) (units t : List ℕ) (h : ListStarts g un
       short .least l (record { ends = λ i b. omega (arith, early .least t list-keeps i b, ends .within .ends i b) })
 
 -- ---- it is there in time
--- the sum of all delays is within the steps: a fact about the limits
+-- as many of the longest delays as there may be operations are within the steps: a fact about the limits
+limits-fit : limit.longest * limit.operations ≤ limit.steps
+limits-fit = omega arith
+
+-- so the sum of all delays is
 pub delays-fit : (g : Graph) → Sound g → allDelays g ≤ limit.steps
-delays-fit g s =
-    let all : limit.longest * limit.operations ≤ limit.steps = omega arith in
-    omega (arith, sum-bound (delay g) limit.longest (many g) (s .delay-to), s .few)
+delays-fit g s = omega (arith, limits-fit, sum-bound (delay g) limit.longest (many g) (s .delay-to), s .few)
 
 module _ (g : Graph) (labels units : List ℕ) (can : Doable g units) where
   pub placed-by : (k : ℕ) → allDelays g ≤ k → AllPlaced g (after g labels units k)

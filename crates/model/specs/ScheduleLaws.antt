@@ -1,5 +1,4 @@
--- What the list schedule and its advance answer is one thing for each input; a graph that passes the checks can be scheduled whole; and
--- from the fresh state as many advances as there are steps give the list schedule's starts, none of them refused.
+-- The list schedule and its advance have one answer for each input; and from fresh as many advances as there are steps give the list schedule.
 use mathlib.Core.Path.{_≡_, refl, sym, ap, subst, _∙_}
 use mathlib.Core.Logic.{_⊎_, inl, inr, ⊎-elim}
 use mathlib.Core.Option.{Option, none, some}
@@ -16,7 +15,8 @@ use Rattle.model.specs.Order.{Order, Closed}
 use Rattle.model.specs.Graph.{Graph, Sound, order, many, delay, busyTime}
 use Rattle.model.specs.Tables.{Latency}
 use Rattle.model.specs.Refusals.{First, Flat, shape, output, unitless, cyclic}
-use Rattle.model.specs.RefusalLaws.{Ones, first-one, flat-one, ones-single, ones-append, shape-ones, output-ones, unitless-ones, has-unit, closed, sound}
+use Rattle.model.specs.RefusalLaws.{first-pass, first-silent, first-end, flat-silent, Ones, first-one, flat-one, ones-single, ones-append, shape-ones, output-ones, unitless-ones, has-unit, closed, sound}
+use Rattle.model.specs.TableLaws.{keeps-acyclic}
 use Rattle.model.specs.AnswerLaws.{numbered-one}
 use Rattle.model.specs.FrameLaws.{answered-one, row-is}
 use Rattle.model.specs.LatencyLaws.{latency-one}
@@ -24,7 +24,7 @@ use Rattle.model.specs.OrderLaws.{EarliestRow, kept-decided, acyclic-ear
 use Rattle.model.specs.CycleLaws.{shown-one, cyclic-shown}
 use Rattle.model.specs.TableAnswers.{cyclic-ones}
 use Rattle.model.specs.Rule.{Labels, stepped, AllPlaced, after, ListStarts}
-use Rattle.model.specs.LabelLaws.{labels-one}
+use Rattle.model.specs.LabelLaws.{labels-one, LabelRow, labels-exist}
 use Rattle.model.specs.Progress.{Doable}
 use Rattle.model.specs.ListLaws.{stepped-same, stable, after-stable, list-starts-one, all-placed, list-starts}
 use Rattle.model.specs.Scheduling.{listChecks, ListGiven, ListAnswer, Outside, advanceChecks, Moves, Stays, StateAfter, AdvanceAnswer}
@@ -113,7 +113,7 @@ all-or-not g t =
 stays-one : (t : List ℕ) (step : ℕ) (a b : List ℕ) (m n : ℕ) → Stays t step a m → Stays t step b n → (a ≡ b) × (m ≡ n)
 stays-one t step a b m n x y = (x .starts ∙ sym (y .starts), x .same ∙ sym (y .same))
 
-moves-one : (g : Graph) (units t : List ℕ) (step : ℕ) (a b : List ℕ) (m n : ℕ) → Moves g units t step a m → Moves g units t step b n
+pub moves-one : (g : Graph) (units t : List ℕ) (step : ℕ) (a b : List ℕ) (m n : ℕ) → Moves g units t step a m → Moves g units t step b n
     → (a ≡ b) × (m ≡ n)
 moves-one g units t step a b m n x y = (
   x .starts
@@ -183,22 +183,45 @@ module _ (g : Graph) (labels units : List ℕ) (are : Labels g labels) where
   advances-come fresh = record { starts = refl; further = λ not. refl }
   advances-come (then before one) = come-next _ _ _ _ _ (advances-come before) (one .state)
 
-  module _ (can : Doable g units) where
-    -- as many advances as there are steps give the list schedule's starts
-    pub advances-list : (t : List ℕ) (step : ℕ) → Advances g units limit.steps t step → ListStarts g units (take (many g) t)
-    advances-list t step all =
-        subst (λ (row : List ℕ). ListStarts g units (take (many g) row)) (sym (advances-come all .starts)) (list-starts g labels units can are)
+-- a graph that can be scheduled whole has labels
+pub labelled : (g : Graph) (units : List ℕ) → Doable g units → LabelRow g
+labelled g units can =
+    let c = closed g (can .sound) in
+    labels-exist g c (keeps-acyclic (order g) c (can .row) (can .keeps))
 
-    -- on the way refusal 11 is never given
-    pub never-outside : (k : ℕ) (t : List ℕ) (step : ℕ) → Advances g units k t step → Outside g t step → ⊥
-    never-outside k t step all out =
-        let come = advances-come all in
-        let not : AllPlaced g t → ⊥ = λ placed. omega (arith, placed .each (out .operation) (out .inside), out .unplaced) in
-        let here = come .further not in
-        ⊎-elim
-        (λ low. omega arith)
-        (λ high.
-        let whole = all-placed g labels units can in
-        not
-        (subst (AllPlaced g) (sym (come .starts ∙ after-stable g labels units limit.steps k (omega arith) whole)) whole))
-        (out .out)
+module _ (g : Graph) (units : List ℕ) (can : Doable g units) where
+  -- as many advances as there are steps place every operation
+  pub advances-placed : (t : List ℕ) (step : ℕ) → Advances g units limit.steps t step → AllPlaced g t
+  advances-placed t step all =
+      let labels = labelled g units can in
+      subst (AllPlaced g) (sym (advances-come g (labels .row) units (labels .are) all .starts)) (all-placed g (labels .row) units can)
+
+  -- and give the list schedule's starts
+  pub advances-list : (t : List ℕ) (step : ℕ) → Advances g units limit.steps t step → ListStarts g units (take (many g) t)
+  advances-list t step all =
+      let labels = labelled g units can in
+      subst (λ (row : List ℕ). ListStarts g units (take (many g) row)) (sym (advances-come g (labels .row) units (labels .are) all .starts))
+      (list-starts g (labels .row) units can (labels .are))
+
+  -- at any time before or after, refusal 11 is not given
+  pub never-outside : (k : ℕ) (t : List ℕ) (step : ℕ) → Advances g units k t step → Outside g t step → ⊥
+  never-outside k t step all out =
+      let labels = labelled g units can in
+      let come = advances-come g (labels .row) units (labels .are) all in
+      let not : AllPlaced g t → ⊥ = λ placed. omega (arith, placed .each (out .operation) (out .inside), out .unplaced) in
+      let here = come .further not in
+      ⊎-elim
+      (λ low. omega arith)
+      (λ high.
+      let whole = all-placed g (labels .row) units can in
+      not
+      (subst (AllPlaced g) (sym (come .starts ∙ after-stable g (labels .row) units limit.steps k (omega arith) whole)) whole))
+      (out .out)
+
+  -- nor any other, where the graph passes: no advance from fresh is refused
+  pub never-refused : First ((shape g (length units ≡ g .kinds → ⊥) ++ unitless g units) ++ cyclic (order g)) none → (k : ℕ) (t : List ℕ) (step : ℕ)
+      → Advances g units k t step → (x : Option (ℕ × ℕ)) (t′ : List ℕ) (step′ : ℕ) → AdvanceAnswer g units t step x t′ step′ → x ≡ none
+  never-refused passed k t step all x t′ step′ one =
+      first-one (advanceChecks g units t step) (advance-ones g units t step) x none (one .first)
+      (first-pass ((shape g (length units ≡ g .kinds → ⊥) ++ unitless g units) ++ cyclic (order g)) (Flat 11 (Outside g t step) ∷ []) none passed
+      (first-silent _ _ _ (flat-silent 11 _ (never-outside k t step all)) first-end))

@@ -1,5 +1,4 @@
--- Document 01's own words: candidates start one after another, by larger label, then lower number, while fewer than the type's units
--- are running. However the types are interleaved, this ends, and it ends at what `stepped` says.
+-- The rule in 01's own words, candidates starting one after another: however the types are interleaved it ends, and it ends at what `stepped` says.
 use mathlib.Core.Path.{_≡_, refl, sym, ap, subst, _∙_}
 use mathlib.Core.Logic.{_⊎_, inl, inr, ⊎-elim}
 use mathlib.Core.Bool.{Bool, true}

@@ -1,4 +1,4 @@
--- How the answers are put together: each way out of `advance` and of `list_schedule` is an outcome that its contract allows. Assumes nothing.
+-- How the answers are put together: each way out of `advance` and of `list_schedule` is an outcome that its contract allows.
 use mathlib.Core.Path.{_≡_, refl, sym, ap, subst, _∙_}
 use mathlib.Core.Logic.{_⊎_, ⊎-elim}
 use mathlib.Core.Option.{none, some}
@@ -23,8 +23,10 @@ use Rattle.model.specs.Progress.{Doable}
 use Rattle.model.specs.ScheduleLaws.{doable}
 use Rattle.model.specs.Scheduling.{listChecks, ListGiven, Outside, Moves, StateAfter, AdvanceAnswer}
 use Rattle.model.specs.declared.Answer.{Answer}
-use Rattle.rule.specs.Turn.{Full}
-use Rattle.rule.specs.Fronts.{advanceFront, listFront, ListRow}
+use Rattle.rule.specs.declared.State.{State}
+use Rattle.rule.specs.declared.Advanced.{Advanced}
+use Rattle.rule.specs.One.{beside}
+use Rattle.rule.specs.Fronts.{advanceFront, listFront, Full, ListRow}
 use Rattle.rule.proofs.Checked.{ready}
 use Rattle.rule.proofs.Going.{all-full, full-all}
 
@@ -86,6 +88,13 @@ module _ (delays types : List ℕ) (kinds : ℕ) (from to units : List ℕ) wher
     list-room = room-enough given room (shaped .1)
 
 -- ---- the advance's ways out
+-- the same state beside an answer
+pub unmoved : {g : Graph} {units : List ℕ} {s : State} {a : Answer} {r : Advanced} → r ≡ beside s a
+    → AdvanceAnswer g units (s .starts) (s .step) (refusalOf a) (s .starts) (s .step)
+    → AdvanceAnswer g units (s .starts) (s .step) (refusalOf (r .answer)) (r .state .starts) (r .state .step)
+unmoved {g} {units} {s} e h =
+    subst (λ (x : Advanced). AdvanceAnswer g units (s .starts) (s .step) (refusalOf (x .answer)) (x .state .starts) (x .state .step)) (sym e) h
+
 module _ (g : Graph) (units t : List ℕ) (step : ℕ) where
   pub advance-refused : (r : ℕ × ℕ) → First (advanceFront g units) (some r) → AdvanceAnswer g units t step (some r) t step
   unfolding StateAfter

@@ -1,4 +1,4 @@
--- What the checks tell: the flag that the units' row has its length, and what is known of a graph that is let by. Assumes nothing.
+-- What the checks tell: the flag that the units' row has its length, and what is known of a graph that is let by.
 use mathlib.Core.Path.{_≡_}
 use mathlib.Core.Logic.{⊎-elim}
 use mathlib.Core.Bool.{false}

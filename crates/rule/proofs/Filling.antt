@@ -1,4 +1,4 @@
--- The loop of `full`: the starts passed are there. Assumes nothing.
+-- The loop of `full`: the starts passed are there.
 use mathlib.Core.Path.{_≡_, ap}
 use mathlib.Core.Logic.{⊎-elim}
 use mathlib.Core.Bool.{true, false}
@@ -7,7 +7,7 @@ use Prim.Native.Nat.{ℕ, _+_, _≤_, _<_}
 use native.Mathlib.Omega.{arith}
 use Rattle.laws.specs.Cases.{Tells, tells-yes, tells-no, same-or-not}
 use Rattle.laws.specs.Rows.{at}
-use Rattle.rule.specs.Turn.{Full}
+use Rattle.rule.specs.Fronts.{Full}
 
 module _ {starts : List ℕ} where
   pub full-none : Full 0 starts

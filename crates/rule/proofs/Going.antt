@@ -1,5 +1,4 @@
--- The loop of `schedule`: before step l the starts are those after l - 1 advances from fresh. Not all are placed, so l is within the steps.
--- Assumes nothing.
+-- The loop of `schedule`: before step l the starts are those after l - 1 advances from fresh; while not all are placed, l is within the steps.
 use mathlib.Core.Path.{_≡_, refl, sym, ap, subst, _∙_}
 use mathlib.Core.Logic.{⊎-elim}
 use mathlib.Core.List.{List}
@@ -19,9 +18,8 @@ use Rattle.model.specs.RuleLaws.{stepped-long, rest-stays}
 use Rattle.model.specs.Progress.{Doable}
 use Rattle.model.specs.ListLaws.{stepped-same, after-stable, all-placed}
 use Rattle.model.specs.Scheduling.{Moves}
-use Rattle.rule.specs.Turn.{Full}
-use Rattle.rule.specs.Priority.{Priority}
-use Rattle.rule.specs.Fronts.{ListRow}
+use Rattle.step.specs.Priority.{Priority}
+use Rattle.rule.specs.Fronts.{Full, ListRow}
 
 -- the starts before a step
 pub record Going (g : Graph) (units t : List ℕ) (step : ℕ) : Type 0 where

@@ -1,9 +1,3 @@
-mod Tallies
-mod Rooms
-mod Ranks
-mod Passing
-mod Ranking
-mod Labelled
 mod Checked
 mod Filling
 mod Going

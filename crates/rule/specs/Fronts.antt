@@ -1,7 +1,7 @@
 -- The refusals that are settled before a schedule is begun, and what the whole schedule is.
 use mathlib.Core.Path.{_≡_}
 use mathlib.Core.List.{List, _++_}
-use Prim.Native.Nat.{ℕ, _≤_}
+use Prim.Native.Nat.{ℕ, _≤_, _<_}
 use lib.ListN.{length, take}
 use Rattle.laws.specs.Rows.{at}
 use Rattle.model.specs.Limits as limit
@@ -22,3 +22,7 @@ pub record ListRow (g : Graph) (units row : List ℕ) : Type 0 where
   pub long : length row ≡ limit.operations
   pub are : ListStarts g units (take (many g) row)
   pub rest : (i : ℕ) → many g ≤ i → at row i ≡ 0
+
+-- the first n starts are all there
+pub record Full (n : ℕ) (starts : List ℕ) : Type 0 where
+  pub each : (i : ℕ) → i < n → 1 ≤ at starts i

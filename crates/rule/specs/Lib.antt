@@ -1,5 +1,2 @@
-pub mod Tally
-pub mod Turn
-pub mod Priority
 pub mod Fronts
 pub mod One

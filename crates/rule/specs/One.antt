@@ -9,6 +9,7 @@ use Rattle.model.specs.Answers.{refusalOf}
 use Rattle.model.specs.AnswerLaws.{refusal-one}
 use Rattle.model.specs.Scheduling.{AdvanceAnswer}
 use Rattle.model.specs.ScheduleLaws.{advance-answer-one}
+use Rattle.model.specs.declared.Answer.{Answer}
 use Rattle.rule.specs.declared.State.{State}
 use Rattle.rule.specs.declared.Advanced.{Advanced}
 
@@ -16,6 +17,10 @@ use Rattle.rule.specs.declared.Advanced.{Advanced}
 pub record Fresh (s : State) : Type 0 where
   pub step : s .step ≡ 1
   pub starts : s .starts ≡ replicate limit.operations 0
+
+-- a state beside an answer
+abbrev pub beside : State → Answer → Advanced
+beside s a = record { answer = a; state = s }
 
 -- states with one step and the same starts are one state
 state-one : (r s : State) → r .step ≡ s .step → r .starts ≡ s .starts → r ≡ s

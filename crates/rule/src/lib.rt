@@ -1,7 +1,4 @@
 // The list schedule and its advance.
-mod priority;
-mod steps;
-
 use model::Answer;
 use model::Refusal;
 use model::Scheduled;
@@ -17,9 +14,8 @@ ghost use Rattle.model.specs.Refusals.{First};
 ghost use Rattle.model.specs.Answers.{refusalOf};
 ghost use Rattle.model.specs.Progress.{Doable};
 ghost use Rattle.model.specs.Scheduling.{ListAnswer, AdvanceAnswer};
-ghost use Rattle.rule.specs.Turn.{Full};
-ghost use Rattle.rule.specs.Fronts.{advanceFront, listFront, ListRow};
-ghost use Rattle.rule.specs.One.{Fresh};
+ghost use Rattle.rule.specs.Fronts.{advanceFront, listFront, Full, ListRow};
+ghost use Rattle.rule.specs.One.{Fresh, beside};
 
 // The list schedule's state: the step, and a start for each operation, 0 for one that is not placed.
 pub struct State {
@@ -102,14 +98,14 @@ fn schedule(
     requires { ⌜ Doable (lent (now delays) (now types) (length (now units)) (now from) (now to)) (now units) ⌝ }
     ensures { λ r. ⌜ ListRow (lent (now (delays .entry)) (now (types .entry)) (length (now (units .entry))) (now (from .entry)) (now (to .entry))) (now (units .entry)) r ⌝ }
 {
-    let ranked = priority::ranks(delays, from, to);
+    let ranked = step::priority::ranks(delays, from, to);
     let mut starts = [0u16; OPERATIONS];
     let mut step = 1;
     loop {
         if full(&starts, delays.len()) {
             return starts;
         }
-        steps::step(delays, types, from, to, units, &ranked, step, &mut starts);
+        step::apply(delays, types, from, to, units, &ranked, step, &mut starts);
         step += 1;
     }
 }
@@ -151,6 +147,16 @@ impl State {
         }
     }
 
+    // The same state, beside an answer.
+    fn unmoved(self, answer: Answer) -> Advanced
+        ensures { λ r. ⌜ r ≡ beside self answer ⌝ }
+    {
+        Advanced {
+            answer,
+            state: self,
+        }
+    }
+
     // The rule at the state's step, and the state one step further on. Where all are placed, or where it is refused, the same state.
     pub fn advance(
         self,
@@ -165,34 +171,22 @@ impl State {
     {
         let fault = advance_fault(delays, types, kinds, from, to, units);
         if let Answer::Refused(why) = fault {
-            return Advanced {
-                answer: Answer::Refused(why),
-                state: self,
-            };
+            return self.unmoved(Answer::Refused(why));
         }
         let step = self.step;
         let starts = self.starts;
         if full(&starts, delays.len()) {
-            return Advanced {
-                answer: Answer::Done,
-                state: self,
-            };
+            return self.unmoved(Answer::Done);
         }
         if step < 1 {
-            return Advanced {
-                answer: Answer::Refused(Refusal::Step),
-                state: self,
-            };
+            return self.unmoved(Answer::Refused(Refusal::Step));
         }
         if STEPS < step {
-            return Advanced {
-                answer: Answer::Refused(Refusal::Step),
-                state: self,
-            };
+            return self.unmoved(Answer::Refused(Refusal::Step));
         }
-        let ranked = priority::ranks(delays, from, to);
+        let ranked = step::priority::ranks(delays, from, to);
         let mut next = self.starts;
-        steps::step(delays, types, from, to, units, &ranked, step, &mut next);
+        step::apply(delays, types, from, to, units, &ranked, step, &mut next);
         Advanced {
             answer: Answer::Done,
             state: State {

@@ -1,7 +1,7 @@
 -- The loop keeps that the starts passed are there. What is left of them falls.
 use Prim.Native.Nat.{_-_, _≤_}
 use borrow.Author.Needs.{needs}
-use Rattle.rule.specs.Turn.{Full}
+use Rattle.rule.specs.Fronts.{Full}
 use Rattle.rule.proofs.Filling.{full-none, full-step, full-end, full-not}
 use Rattle.rule.proofs.full.Statement.{statement}
 use Rattle.rule.proofs.full.Tie as tie

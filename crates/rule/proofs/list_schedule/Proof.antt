@@ -15,13 +15,18 @@ enum-known-fault : tie.Need-enum-known-fault
 enum-known-fault c = search needs
 
 returns : tie.Need-returns
-returns c = list-refused _ (c .before .before .before .before .before .before .before .before .before .before .args .units .now) (c .before .before .before .before .before .before .before .before .before .before .args .out .now) _ _ (first-told _ (c .before .fault .given .1) (c .before .before .before .list-fault .ensures))
+returns c =
+    let a = c .before .before .before .before .before .before .before .before .before .before .args in
+    list-refused _ (a .units .now) (a .out .now) _ _ (first-told _ (c .before .fault .given .1) (c .before .before .before .list-fault .ensures))
 
 enum-told : tie.Need-enum-told
 enum-told c = search needs
 
 place-requires : tie.Need-place-requires
-place-requires c κs = (closed _ (list-sound (c .before .before .before .before .before .before .before .before .before .before .before .args .delays .now) (c .before .before .before .before .before .before .before .before .before .before .before .args .types .now) (c .before .before .before .before .before .before .before .before .before .before .before .args .kinds) (c .before .before .before .before .before .before .before .before .before .before .before .args .from .now) (c .before .before .before .before .before .before .before .before .before .before .before .args .to .now) (c .before .before .before .before .before .before .before .before .before .before .before .args .units .now) _ (first-told _ (c .before .before .enum-told .given .1) (c .before .before .before .before .list-fault .ensures))), list-room (c .before .before .before .before .before .before .before .before .before .before .before .args .delays .now) (c .before .before .before .before .before .before .before .before .before .before .before .args .types .now) (c .before .before .before .before .before .before .before .before .before .before .before .args .kinds) (c .before .before .before .before .before .before .before .before .before .before .before .args .from .now) (c .before .before .before .before .before .before .before .before .before .before .before .args .to .now) (c .before .before .before .before .before .before .before .before .before .before .before .args .units .now) _ (first-told _ (c .before .before .enum-told .given .1) (c .before .before .before .before .list-fault .ensures)))
+place-requires c κs =
+    let a = c .before .before .before .before .before .before .before .before .before .before .before .args in
+    let h = first-told _ (c .before .before .enum-told .given .1) (c .before .before .before .before .list-fault .ensures) in
+    (closed _ (list-sound (a .delays .now) (a .types .now) (a .kinds) (a .from .now) (a .to .now) (a .units .now) _ h), list-room (a .delays .now) (a .types .now) (a .kinds) (a .from .now) (a .to .now) (a .units .now) _ h)
 
 enum-known-tried : tie.Need-enum-known-tried
 enum-known-tried c = search needs
@@ -30,28 +35,43 @@ same-length : tie.Need-same-length
 same-length c = c .before .before .before .before .before .place .kept .1 .1 .1 .1 .0
 
 returns-2 : tie.Need-returns-2
-returns-2 c = list-cyclic _ (c .before .before .before .before .before .before .before .before .before .before .before .before .before .before .before .before .before .args .units .now) (c .before .before .before .before .before .before .before .before .before .before .before .before .before .before .before .before .before .args .out .now) (first-told _ (c .before .before .before .before .before .before .before .before .enum-told .given .1) (c .before .before .before .before .before .before .before .before .before .before .list-fault .ensures)) _ _ _ (told (c .before .tried .given .1) (c .before .before .before .before .before .place .ensures .answered))
+returns-2 c =
+    let a = c .before .before .before .before .before .before .before .before .before .before .before .before .before .before .before .before .before .args in
+    let h = first-told _ (c .before .before .before .before .before .before .before .before .enum-told .given .1) (c .before .before .before .before .before .before .before .before .before .before .list-fault .ensures) in
+    list-cyclic _ (a .units .now) (a .out .now) h _ _ _ (told (c .before .tried .given .1) (c .before .before .before .before .before .place .ensures .answered))
 
 enum-told-2 : tie.Need-enum-told-2
 enum-told-2 c = search needs
 
 schedule-requires : tie.Need-schedule-requires
-schedule-requires c κs = list-can (c .before .before .before .before .before .before .before .before .before .before .before .before .before .before .before .before .args .delays .now) (c .before .before .before .before .before .before .before .before .before .before .before .before .before .before .before .before .args .types .now) (c .before .before .before .before .before .before .before .before .before .before .before .before .before .before .before .before .args .kinds) (c .before .before .before .before .before .before .before .before .before .before .before .before .before .before .before .before .args .from .now) (c .before .before .before .before .before .before .before .before .before .before .before .before .before .before .before .before .args .to .now) (c .before .before .before .before .before .before .before .before .before .before .before .before .before .before .before .before .args .units .now) _ (first-told _ (c .before .before .before .before .before .before .before .enum-told .given .1) (c .before .before .before .before .before .before .before .before .before .list-fault .ensures)) (told (c .enum-told2 .given .1) (c .before .before .before .before .place .ensures .answered) .first)
+schedule-requires c κs =
+    let a = c .before .before .before .before .before .before .before .before .before .before .before .before .before .before .before .before .args in
+    let h = first-told _ (c .before .before .before .before .before .before .before .enum-told .given .1) (c .before .before .before .before .before .before .before .before .before .list-fault .ensures) in
+    list-can (a .delays .now) (a .types .now) (a .kinds) (a .from .now) (a .to .now) (a .units .now) _ h (told (c .enum-told2 .given .1) (c .before .before .before .before .place .ensures .answered) .first)
 
 fill-requires : tie.Need-fill-requires
-fill-requires c κs = (list-sound (c .before .before .before .before .before .before .before .before .before .before .before .before .before .before .before .before .before .before .before .args .delays .now) (c .before .before .before .before .before .before .before .before .before .before .before .before .before .before .before .before .before .before .before .args .types .now) (c .before .before .before .before .before .before .before .before .before .before .before .before .before .before .before .before .before .before .before .args .kinds) (c .before .before .before .before .before .before .before .before .before .before .before .before .before .before .before .before .before .before .before .args .from .now) (c .before .before .before .before .before .before .before .before .before .before .before .before .before .before .before .before .before .before .before .args .to .now) (c .before .before .before .before .before .before .before .before .before .before .before .before .before .before .before .before .before .before .before .args .units .now) _ (first-told _ (c .before .before .before .before .before .before .before .before .before .before .enum-told .given .1) (c .before .before .before .before .before .before .before .before .before .before .before .before .list-fault .ensures)) .few, omega (arith, list-room (c .before .before .before .before .before .before .before .before .before .before .before .before .before .before .before .before .before .before .before .args .delays .now) (c .before .before .before .before .before .before .before .before .before .before .before .before .before .before .before .before .before .before .before .args .types .now) (c .before .before .before .before .before .before .before .before .before .before .before .before .before .before .before .before .before .before .before .args .kinds) (c .before .before .before .before .before .before .before .before .before .before .before .before .before .before .before .before .before .before .before .args .from .now) (c .before .before .before .before .before .before .before .before .before .before .before .before .before .before .before .before .before .before .before .args .to .now) (c .before .before .before .before .before .before .before .before .before .before .before .before .before .before .before .before .before .before .before .args .units .now) _ (first-told _ (c .before .before .before .before .before .before .before .before .before .before .enum-told .given .1) (c .before .before .before .before .before .before .before .before .before .before .before .before .list-fault .ensures)), c .before .before .before .before .before .before .before .place .kept .1 .1 .1 .1 .0))
+fill-requires c κs =
+    let a = c .before .before .before .before .before .before .before .before .before .before .before .before .before .before .before .before .before .before .before .args in
+    let h = first-told _ (c .before .before .before .before .before .before .before .before .before .before .enum-told .given .1) (c .before .before .before .before .before .before .before .before .before .before .before .before .list-fault .ensures) in
+    (list-sound (a .delays .now) (a .types .now) (a .kinds) (a .from .now) (a .to .now) (a .units .now) _ h .few, omega (arith, list-room (a .delays .now) (a .types .now) (a .kinds) (a .from .now) (a .to .now) (a .units .now) _ h, c .before .before .before .before .before .before .before .place .kept .1 .1 .1 .1 .0))
 
 slice-aggregate-latency : tie.Need-slice-aggregate-latency
 slice-aggregate-latency c = sym (c .before .before .before .before .before .before .schedule .ensures .long)
 
 latency-requires : tie.Need-latency-requires
-latency-requires c κs = omega (arith, c .before .before .before .before .before .before .schedule .ensures .long, list-sound (c .before .before .before .before .before .before .before .before .before .before .before .before .before .before .before .before .before .before .before .before .before .before .before .args .delays .now) (c .before .before .before .before .before .before .before .before .before .before .before .before .before .before .before .before .before .before .before .before .before .before .before .args .types .now) (c .before .before .before .before .before .before .before .before .before .before .before .before .before .before .before .before .before .before .before .before .before .before .before .args .kinds) (c .before .before .before .before .before .before .before .before .before .before .before .before .before .before .before .before .before .before .before .before .before .before .before .args .from .now) (c .before .before .before .before .before .before .before .before .before .before .before .before .before .before .before .before .before .before .before .before .before .before .before .args .to .now) (c .before .before .before .before .before .before .before .before .before .before .before .before .before .before .before .before .before .before .before .before .before .before .before .args .units .now) _ (first-told _ (c .before .before .before .before .before .before .before .before .before .before .before .before .before .before .enum-told .given .1) (c .before .before .before .before .before .before .before .before .before .before .before .before .before .before .before .before .list-fault .ensures)) .few)
+latency-requires c κs =
+    let a = c .before .before .before .before .before .before .before .before .before .before .before .before .before .before .before .before .before .before .before .before .before .before .before .args in
+    let h = first-told _ (c .before .before .before .before .before .before .before .before .before .before .before .before .before .before .enum-told .given .1) (c .before .before .before .before .before .before .before .before .before .before .before .before .before .before .before .before .list-fault .ensures) in
+    omega (arith, c .before .before .before .before .before .before .schedule .ensures .long, list-sound (a .delays .now) (a .types .now) (a .kinds) (a .from .now) (a .to .now) (a .units .now) _ h .few)
 
 same-length-2 : tie.Need-same-length-2
 same-length-2 c = c .before .before .before .before .fill .kept .1 .1 .0 ∙ c .before .before .before .before .before .before .before .before .before .before .before .before .place .kept .1 .1 .1 .1 .0
 
 returns-3 : tie.Need-returns-3
-returns-3 c = list-given _ (c .before .before .before .before .before .before .before .before .before .before .before .before .before .before .before .before .before .before .before .before .before .before .before .before .args .units .now) (c .before .before .before .before .before .before .before .before .before .before .before .before .before .before .before .before .before .before .before .before .before .before .before .before .args .out .now) (first-told _ (c .before .before .before .before .before .before .before .before .before .before .before .before .before .before .before .enum-told .given .1) (c .before .before .before .before .before .before .before .before .before .before .before .before .before .before .before .before .before .list-fault .ensures)) (list-sound (c .before .before .before .before .before .before .before .before .before .before .before .before .before .before .before .before .before .before .before .before .before .before .before .before .args .delays .now) (c .before .before .before .before .before .before .before .before .before .before .before .before .before .before .before .before .before .before .before .before .before .before .before .before .args .types .now) (c .before .before .before .before .before .before .before .before .before .before .before .before .before .before .before .before .before .before .before .before .before .before .before .before .args .kinds) (c .before .before .before .before .before .before .before .before .before .before .before .before .before .before .before .before .before .before .before .before .before .before .before .before .args .from .now) (c .before .before .before .before .before .before .before .before .before .before .before .before .before .before .before .before .before .before .before .before .before .before .before .before .args .to .now) (c .before .before .before .before .before .before .before .before .before .before .before .before .before .before .before .before .before .before .before .before .before .before .before .before .args .units .now) _ (first-told _ (c .before .before .before .before .before .before .before .before .before .before .before .before .before .before .before .enum-told .given .1) (c .before .before .before .before .before .before .before .before .before .before .before .before .before .before .before .before .before .list-fault .ensures))) _ _ _ _ (row-same (c .before .before .before .before .before .before .before .before .before .before .before .before .before .before .before .before .before .before .before .before .before .before .before .before .args .delays .now) (c .before .before .before .before .before .before .before .before .before .before .before .before .before .before .before .before .before .before .before .before .before .before .before .before .args .types .now) (c .before .before .before .before .before .before .before .before .before .before .before .before .before .before .before .before .before .before .before .before .before .before .before .before .args .kinds) (c .before .before .before .before .before .before .before .before .before .before .before .before .before .before .before .before .before .before .before .before .before .before .before .before .args .from .now) (c .before .before .before .before .before .before .before .before .before .before .before .before .before .before .before .before .before .before .before .before .before .before .before .before .args .to .now) (c .before .before .before .before .before .before .before .before .before .before .before .before .before .before .before .before .before .before .before .before .before .before .before .before .args .units .now) (list-even (c .before .before .before .before .before .before .before .before .before .before .before .before .before .before .before .before .before .before .before .before .before .before .before .before .args .delays .now) (c .before .before .before .before .before .before .before .before .before .before .before .before .before .before .before .before .before .before .before .before .before .before .before .before .args .types .now) (c .before .before .before .before .before .before .before .before .before .before .before .before .before .before .before .before .before .before .before .before .before .before .before .before .args .kinds) (c .before .before .before .before .before .before .before .before .before .before .before .before .before .before .before .before .before .before .before .before .before .before .before .before .args .from .now) (c .before .before .before .before .before .before .before .before .before .before .before .before .before .before .before .before .before .before .before .before .before .before .before .before .args .to .now) (c .before .before .before .before .before .before .before .before .before .before .before .before .before .before .before .before .before .before .before .before .before .before .before .before .args .units .now) _ (first-told _ (c .before .before .before .before .before .before .before .before .before .before .before .before .before .before .before .enum-told .given .1) (c .before .before .before .before .before .before .before .before .before .before .before .before .before .before .before .before .before .list-fault .ensures))) _ (c .before .before .before .before .before .before .before .schedule .ensures)) (c .latency .ensures _ _) (told (c .before .before .before .before .before .before .before .before .enum-told2 .given .1) (c .before .before .before .before .before .before .before .before .before .before .before .before .place .ensures .answered)) (c .before .before .before .before .fill .ensures)
+returns-3 c =
+    let a = c .before .before .before .before .before .before .before .before .before .before .before .before .before .before .before .before .before .before .before .before .before .before .before .before .args in
+    let h = first-told _ (c .before .before .before .before .before .before .before .before .before .before .before .before .before .before .before .enum-told .given .1) (c .before .before .before .before .before .before .before .before .before .before .before .before .before .before .before .before .before .list-fault .ensures) in
+    list-given _ (a .units .now) (a .out .now) h (list-sound (a .delays .now) (a .types .now) (a .kinds) (a .from .now) (a .to .now) (a .units .now) _ h) _ _ _ _ (row-same (a .delays .now) (a .types .now) (a .kinds) (a .from .now) (a .to .now) (a .units .now) (list-even (a .delays .now) (a .types .now) (a .kinds) (a .from .now) (a .to .now) (a .units .now) _ h) _ (c .before .before .before .before .before .before .before .schedule .ensures)) (c .latency .ensures _ _) (told (c .before .before .before .before .before .before .before .before .enum-told2 .given .1) (c .before .before .before .before .before .before .before .before .before .before .before .before .place .ensures .answered)) (c .before .before .before .before .fill .ensures)
 
 pub list-schedule-spec : {M : Type 1} → statement M
 list-schedule-spec =

@@ -27,17 +27,23 @@ full-requires c κs = c .before .before .before .before .before .before .before 
 returns : tie.Need-returns Inv-loop μ-loop
 returns c = going-end (c .before .before .before .loop .inv) (c .before .full .ensures .yes (c .if1 .taken))
 
-step-requires : tie.Need-step-requires Inv-loop μ-loop
-step-requires c κs = (c .before .before .before .before .before .before .before .before .before .before .before .before .pre .sound, ((c .before .before .before .before .before .before .ranks .ensures (c .before .before .before .before .before .before .before .before .before .before .before .before .args .types .now) (length (c .before .before .before .before .before .before .before .before .before .before .before .before .args .units .now))), ((going-from (c .before .before .before .before .before .loop .inv), (going-within (c .before .before .before .before .before .loop .inv) (c .before .before .before .before .before .before .before .before .before .before .before .before .pre) (c .before .before .before .full .ensures .none (c .before .before .if1 .left)))), c .before .before .before .before .before .loop .inv .long)))
+apply-requires : tie.Need-apply-requires Inv-loop μ-loop
+apply-requires c κs =
+    let within = going-within (c .before .before .before .before .before .loop .inv) (c .before .before .before .before .before .before .before .before .before .before .before .before .pre) (c .before .before .before .full .ensures .none (c .before .before .if1 .left)) in
+    (c .before .before .before .before .before .before .before .before .before .before .before .before .pre .sound, ((c .before .before .before .before .before .before .ranks .ensures (c .before .before .before .before .before .before .before .before .before .before .before .before .args .types .now) (length (c .before .before .before .before .before .before .before .before .before .before .before .before .args .units .now))), ((going-from (c .before .before .before .before .before .loop .inv), within), c .before .before .before .before .before .loop .inv .long)))
 
 add-step : tie.Need-add-step Inv-loop μ-loop
-add-step c = omega (arith, (going-within (c .before .before .before .before .before .before .loop .inv) (c .before .before .before .before .before .before .before .before .before .before .before .before .before .pre) (c .before .before .before .before .full .ensures .none (c .before .before .before .if1 .left))))
+add-step c =
+    let within = going-within (c .before .before .before .before .before .before .loop .inv) (c .before .before .before .before .before .before .before .before .before .before .before .before .before .pre) (c .before .before .before .before .full .ensures .none (c .before .before .before .if1 .left)) in
+    omega arith
 
 loop-less : tie.Need-loop-less Inv-loop μ-loop
-loop-less c = omega (arith, (going-within (c .before .before .before .before .before .before .loop .inv) (c .before .before .before .before .before .before .before .before .before .before .before .before .before .pre) (c .before .before .before .before .full .ensures .none (c .before .before .before .if1 .left))))
+loop-less c =
+    let within = going-within (c .before .before .before .before .before .before .loop .inv) (c .before .before .before .before .before .before .before .before .before .before .before .before .before .pre) (c .before .before .before .before .full .ensures .none (c .before .before .before .if1 .left)) in
+    omega arith
 
 loop-again : tie.Need-loop-again Inv-loop μ-loop
-loop-again c = going-step (c .before .before .before .before .before .before .loop .inv) (c .step .ensures)
+loop-again c = going-step (c .before .before .before .before .before .before .loop .inv) (c .apply .ensures)
 
 pub schedule-spec : {M : Type 1} → statement M
 schedule-spec =
@@ -49,7 +55,7 @@ schedule-spec =
     loop-holds
     full-requires
     returns
-    step-requires
+    apply-requires
     add-step
     loop-less
     loop-again)

@@ -1,0 +1,5 @@
+mod Tallies
+mod Rooms
+mod Ranking
+mod Labelled
+mod Passing

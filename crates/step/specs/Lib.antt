@@ -1,0 +1,5 @@
+pub mod Tally
+pub mod Turn
+pub mod Priority
+pub mod RankLaws
+pub mod One

@@ -1,0 +1,139 @@
+// The list schedule's rule at one step: who is held back, what is in use, and one pass in the order of priority that starts candidates.
+pub mod priority;
+
+use model::limits::KINDS;
+use model::limits::OPERATIONS;
+ghost use mathlib.Core.Path.{_≡_};
+ghost use Prim.Native.Nat.{ℕ, _+_, _≤_, _<_};
+ghost use lib.Dec.{ltb};
+ghost use lib.ListN.{length};
+ghost use Rattle.laws.specs.Tests.{neg};
+ghost use Rattle.laws.specs.Rows.{at};
+ghost use Rattle.laws.specs.Count.{bit};
+ghost use Rattle.model.specs.Limits as limit;
+ghost use Rattle.model.specs.Order.{Closed, ordered};
+ghost use Rattle.model.specs.Graph.{Sound, lent};
+ghost use Rattle.model.specs.Rule.{pickStart};
+ghost use Rattle.model.specs.Scheduling.{Moves};
+ghost use Rattle.step.specs.Tally.{Tally};
+ghost use Rattle.step.specs.Turn.{overAt, runsAt, waitsAt, usesAt, takesAt, Typed};
+ghost use Rattle.step.specs.Priority.{Priority};
+
+// 1 where a predecessor with this start and delay is not over: it is not placed, or its last step, t + d less 1, does not lie before this one.
+fn waits(start: u16, delay: u8, step: usize) -> usize
+    ensures { λ r. ⌜ r ≡ bit (neg (overAt start delay step)) ⌝ }
+{
+    if start == 0 {
+        return 1;
+    }
+    let last = start as usize + delay as usize - 1;
+    if last < step { 0 } else { 1 }
+}
+
+// 1 where an operation with this start and busy time is placed and running.
+fn running(start: u16, busy: u8, step: usize) -> usize
+    ensures { λ r. ⌜ r ≡ bit (runsAt start busy step) ⌝ }
+{
+    let from = start as usize;
+    if from == 0 {
+        return 0;
+    }
+    if step < from {
+        return 0;
+    }
+    if step < from + busy as usize {
+        return 1;
+    }
+    0
+}
+
+// How many edges hold each operation back: one pass over the edges.
+fn holders(
+    delays: &[u8],
+    from: &[u16],
+    to: &[u16],
+    starts: &[u16; OPERATIONS],
+    step: usize,
+) -> [usize; OPERATIONS]
+    requires { ⌜ Closed (ordered (now delays) (now from) (now to)) ⌝ }
+    ensures { λ r. ⌜ Tally (at (now (to .entry))) (waitsAt (now (delays .entry)) (now (from .entry)) (now (starts .entry)) step) limit.operations r (length (now (from .entry))) ⌝ }
+{
+    let mut row = [0usize; OPERATIONS];
+    let mut e = 0;
+    while e < from.len() {
+        let source = from[e] as usize;
+        let target = to[e] as usize;
+        row[target] += waits(starts[source], delays[source], step);
+        e += 1;
+    }
+    row
+}
+
+// How many operations of each type are running: one pass over the operations.
+fn in_use(busy: &[u8], types: &[u8], starts: &[u16; OPERATIONS], step: usize) -> [usize; KINDS]
+    requires { ⌜ Typed (now types) (length (now busy)) ⌝ }
+    ensures { λ r. ⌜ Tally (at (now (types .entry))) (usesAt (now (busy .entry)) (now (starts .entry)) step) limit.kinds r (length (now (busy .entry))) ⌝ }
+{
+    let mut row = [0usize; KINDS];
+    let mut i = 0;
+    while i < busy.len() {
+        let kind = types[i] as usize;
+        row[kind] += running(starts[i], busy[i], step);
+        i += 1;
+    }
+    row
+}
+
+// 1 where an operation is a candidate and its type has a unit left.
+fn takes(start: u16, held: usize, used: usize, units: u8) -> usize
+    ensures { λ r. ⌜ r ≡ bit (takesAt start held used units) ⌝ }
+{
+    if start != 0 {
+        return 0;
+    }
+    if held != 0 {
+        return 0;
+    }
+    if used < units as usize { 1 } else { 0 }
+}
+
+// The step where the operation starts, and its old start where it does not.
+fn chosen(now: usize, step: usize, old: u16) -> u16
+    requires { ⌜ step ≤ limit.steps ⌝ }
+    ensures { λ r. ⌜ r ≡ pickStart (ltb 0 now) step old ⌝ }
+{
+    if now == 0 {
+        return old;
+    }
+    step as u16
+}
+
+// The rule at one step: each operation has its turn in the order of priority, and a candidate starts while its type has a unit left.
+pub fn apply(
+    delays: &[u8],
+    types: &[u8],
+    from: &[u16],
+    to: &[u16],
+    units: &[u8],
+    ranked: &[u16; OPERATIONS],
+    step: usize,
+    starts: &mut [u16; OPERATIONS],
+)
+    requires { ⌜ Sound (lent (now delays) (now types) (length (now units)) (now from) (now to)) ⌝ }
+    requires { ⌜ Priority (lent (now delays) (now types) (length (now units)) (now from) (now to)) (now ranked) ⌝ }
+    requires { ⌜ (1 ≤ step) × (step ≤ limit.steps) ⌝ }
+    requires { ⌜ length (now starts) ≡ limit.operations ⌝ }
+    ensures { λ r. ⌜ Moves (lent (now (delays .entry)) (now (types .entry)) (length (now (units .entry))) (now (from .entry)) (now (to .entry))) (now (units .entry)) (now (starts .entry)) step (now (starts .exit)) (step + 1) ⌝ }
+{
+    let held = holders(delays, from, to, starts, step);
+    let mut used = in_use(delays, types, starts, step);
+    let mut p = 0;
+    while p < types.len() {
+        let i = ranked[p] as usize;
+        let kind = types[i] as usize;
+        let now = takes(starts[i], held[i], used[kind], units[kind]);
+        used[kind] += now;
+        starts[i] = chosen(now, step, starts[i]);
+        p += 1;
+    }
+}
