@@ -36,6 +36,5 @@ pub mod ListLaws
 pub mod ScheduleLaws
 pub mod LawfulLaws
 pub mod ListingLaws
-pub mod ListingCases
 pub mod ListingAnswers
 pub mod Theorems
