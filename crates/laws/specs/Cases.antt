@@ -1,6 +1,6 @@
 -- How two numbers lie to each other, and what a test tells: the case splits that every proof leans on.
 use mathlib.Core.Path.{_≡_, refl, sym, _∙_}
-use mathlib.Core.Logic.{_⊎_, inl, inr}
+use mathlib.Core.Logic.{_⊎_, inl, inr, ⊎-elim}
 use mathlib.Core.Bool.{Bool, true, false, true≢false, false≢true}
 use Prim.Native.Nat.{ℕ, _≤_, _<_}
 use native.Mathlib.Decide.{decLe, ℕ-discrete}
@@ -14,6 +14,10 @@ le-or-lt a b = elim (decLe a b) [ yes p ↦ inl p | no p ↦ inr (omega arith) ]
 
 pub lt-or-le : (a b : ℕ) → (a < b) ⊎ (b ≤ a)
 lt-or-le a b = elim (decLe b a) [ yes p ↦ inr p | no p ↦ inl (omega arith) ]
+
+-- numbers that are not different are equal
+pub equal : {a b : ℕ} → ((a ≡ b → ⊥) → ⊥) → a ≡ b
+equal {a} {b} h = ⊎-elim (λ e. e) (λ n. absurd (h n)) (same-or-not a b)
 
 -- r tells whether P holds
 pub record Tells (r : Bool) (P : Type 0) : Type 0 where

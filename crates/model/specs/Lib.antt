@@ -26,6 +26,7 @@ pub mod OrderLaws
 pub mod CycleLaws
 pub mod TableAnswers
 pub mod UseLaws
+pub mod RunLaws
 pub mod VerdictLaws
 pub mod LabelLaws
 pub mod RuleLaws

@@ -7,7 +7,7 @@ use Prim.Native.Nat.{ℕ, zero, suc, _≤_, _<_}
 use native.Mathlib.Omega.{arith}
 use borrow.Author.Count.{below-none, below-more}
 use lib.ListN.{length}
-use Rattle.laws.specs.Cases.{same-or-not}
+use Rattle.laws.specs.Cases.{equal}
 use Rattle.laws.specs.Rows.{at}
 use Rattle.laws.specs.Lowest.{None, Lowest, lowest-one}
 use Rattle.model.specs.Limits as limit
@@ -203,9 +203,6 @@ at-most h = omega arith
 
 less : {a b : ℕ} → (b ≤ a → ⊥) → a < b
 less h = omega arith
-
-equal : {a b : ℕ} → ((a ≡ b → ⊥) → ⊥) → a ≡ b
-equal {a} {b} h = ⊎-elim (λ e. e) (λ n. absurd (h n)) (same-or-not a b)
 
 -- rows that are not uneven match
 pub even-types : {g : Graph} {Own : Type 0} → (Uneven g Own → ⊥) → many g ≡ length (g .types)

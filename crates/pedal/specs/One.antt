@@ -20,7 +20,8 @@ use Rattle.model.specs.Listing.{ListerAnswer}
 use Rattle.model.specs.ListingAnswers.{lister-answer-one}
 use Rattle.model.specs.Views.{Table}
 use Rattle.model.specs.ViewLaws.{view-refusal-one}
-use Rattle.units.specs.One.{check-one, peak-use-one}
+use Rattle.units.specs.One.{check-one}
+use Rattle.peak.specs.One.{peak-use-one}
 use Rattle.pedal.specs.Face.{HandsOn, filledOf, plannedOf, judgedOf, givenOf, peakedOf, movedOf, PartSaid, MoveSaid}
 use Rattle.pedal.specs.declared.Filled.{Filled}
 use Rattle.pedal.specs.declared.Planned.{Planned}

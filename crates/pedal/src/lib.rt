@@ -341,7 +341,7 @@ pub extern "C" fn pedal_peak(
 ) -> Peaked
     ensures { λ r. ⌜ HandsOn (PeakAnswer (lent (now (delays .entry)) (now (types .entry)) kinds (now (from .entry)) (now (to .entry))) (now (starts .entry))) peakedOf r ⌝ }
 {
-    as_peaked(units::peak_use(delays, types, kinds, from, to, starts))
+    as_peaked(peak::peak_use(delays, types, kinds, from, to, starts))
 }
 
 // The advance's answer, and the step that the state now has.

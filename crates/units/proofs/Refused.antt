@@ -1,4 +1,4 @@
--- The refusals of the checker and of peak use: their own rows match where `even` tells so, and what no refusal leaves.
+-- The refusals of the checker: its own rows match where `even` tells so, and what no refusal leaves.
 use mathlib.Core.Path.{_≡_}
 use mathlib.Core.Logic.{_⊎_, inl, inr, ⊎-elim}
 use mathlib.Core.Bool.{Bool, false}
@@ -6,24 +6,15 @@ use mathlib.Core.Option.{Option, none}
 use mathlib.Core.List.{List}
 use Prim.Native.Nat.{ℕ, _≤_, _<_}
 use native.Mathlib.Omega.{arith}
-use borrow.Author.Tests.{eqb-false, ne-eqb}
-use lib.Dec.{eqb}
 use lib.ListN.{length}
-use Rattle.laws.specs.Cases.{Tells, same-or-not}
+use Rattle.laws.specs.Cases.{Tells, same-or-not, equal}
 use Rattle.laws.specs.Tests.{off}
 use Rattle.model.specs.Limits as limit
-use Rattle.model.specs.Graph.{Graph, order, many, lent}
+use Rattle.model.specs.Graph.{Graph, order, many}
 use Rattle.model.specs.Refusals.{First, shape, unitless, cyclic, large-bound}
 use Rattle.model.specs.RefusalLaws.{first-none-append, flat-not, shape-own, own-not, sound}
-use Rattle.model.specs.Verdicts.{CheckUneven, checkChecks, peakChecks}
+use Rattle.model.specs.Verdicts.{CheckUneven, checkChecks}
 use Rattle.units.specs.Findings.{Askable}
-use Rattle.units.specs.Peaking.{Countable}
-
--- numbers that are not different are equal
-equal : {a b : ℕ} → ((a ≡ b → ⊥) → ⊥) → a ≡ b
-equal {a} {b} h = ⊎-elim (λ e. e) (λ n. absurd (h n)) (same-or-not a b)
-
--- ---- the checker
 
 -- `even` tells whether both rows that only the checker takes match
 abbrev pub Even : Graph → List ℕ → List ℕ → Bool → Type 0
@@ -64,23 +55,4 @@ check-askable g units bound t h =
       even-units = check-units g units t (front .0);
       even-starts = check-starts g units t (front .0);
       bound-in = bound-in bound (last .1);
-    }
-
--- ---- peak use
--- the same of peak use, whose own row is the starts
-pub peak-shape : (g : Graph) (t : List ℕ) (x : Option (ℕ × ℕ)) → First (shape g (eqb (length t) (many g) ≡ false)) x
-    → First (shape g (length t ≡ many g → ⊥)) x
-peak-shape g t x h =
-    shape-own g (eqb (length t) (many g) ≡ false) (length t ≡ many g → ⊥) (eqb-false (length t) (many g)) (ne-eqb (length t) (many g)) x h
-
--- where none of peak use's says anything, the peaks can be counted
-pub peak-countable : (d ty : List ℕ) (kinds : ℕ) (from to t : List ℕ) → First (peakChecks (lent d ty kinds from to) t) none → Countable d ty t
-peak-countable d ty kinds from to t h =
-    let g = lent d ty kinds from to in
-    let front = first-none-append (shape g (length t ≡ many g → ⊥)) _ h in
-    let s = sound g _ (front .0) in
-    record {
-      even-types = s .even-types;
-      even-starts = equal (λ n. own-not g (length t ≡ many g → ⊥) (front .0) n);
-      type-in = λ i l. omega (arith, s .type-in i l, s .few-kinds);
     }

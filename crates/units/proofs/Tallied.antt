@@ -13,12 +13,12 @@ use Rattle.model.specs.Limits as limit
 use Rattle.model.specs.Graph.{Graph, many, typeOf, busyTime}
 use Rattle.model.specs.Use.{runs, running}
 use Rattle.model.specs.UseLaws.{running-none}
+use Rattle.model.specs.RunLaws.{runs-for}
 use Rattle.model.specs.Faults as fault
 use Rattle.model.specs.declared.Finding.{Finding}
 use Rattle.model.specs.declared.Finding.the-variants as found
 use Rattle.units.specs.Tally.{cell, Markable, Marked, Tally, OverCell, Reads}
 use Rattle.units.specs.Findings.{Overs}
-use Rattle.units.proofs.RunsFor.{runs-for}
 
 -- zeros count nobody
 pub tally-none : {g : Graph} {t : List ℕ} → Tally g t (replicate limit.cells 0) 0

@@ -1,4 +1,3 @@
 pub mod Tally
 pub mod Findings
-pub mod Peaking
 pub mod One

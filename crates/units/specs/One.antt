@@ -2,45 +2,26 @@
 use mathlib.Core.Path.{_≡_, sym, _∙_}
 use mathlib.Core.List.{List}
 use Prim.Native.Nat.{ℕ}
-use native.Mathlib.Omega.{arith}
-use Rattle.laws.specs.Rows.{same-row}
 use Rattle.model.specs.Graph.{Graph}
 use Rattle.model.specs.Refusals.{First}
 use Rattle.model.specs.Answers.{refusalOf}
 use Rattle.model.specs.AnswerLaws.{answer-one}
-use Rattle.model.specs.UseLaws.{peak-one}
-use Rattle.model.specs.Verdicts.{Checked, PeakAnswer, checkChecks, peakChecks}
-use Rattle.model.specs.VerdictLaws.{checked-one, peak-answer-one, check-ones, peak-ones, finds-one}
+use Rattle.model.specs.Verdicts.{Checked, checkChecks}
+use Rattle.model.specs.VerdictLaws.{checked-one, check-ones, finds-one}
 use Rattle.model.specs.declared.Answer.{Answer}
 use Rattle.model.specs.declared.Finding.{Finding}
 use Rattle.model.specs.declared.Verdict.{Verdict}
-use Rattle.model.specs.declared.Peaks.{Peaks}
 use Rattle.units.specs.Findings.{Settled}
-use Rattle.units.specs.Peaking.{AllPeaks}
 
 -- of `check`
 pub check-one : (g : Graph) (units : List ℕ) (bound : ℕ) (t : List ℕ) (v w : Verdict) → Checked g units bound t v → Checked g units bound t w → v ≡ w
 check-one = checked-one
-
--- of `peak_use`
-pub peak-use-one : (g : Graph) (t : List ℕ) (p q : Peaks) → PeakAnswer g t p → PeakAnswer g t q → p ≡ q
-peak-use-one = peak-answer-one
 
 -- of `check_fault`
 pub check-fault-one : (g : Graph) (units : List ℕ) (bound : ℕ) (t : List ℕ) (r s : Answer) → First (checkChecks g units bound t) (refusalOf r)
     → First (checkChecks g units bound t) (refusalOf s) → r ≡ s
 check-fault-one g units bound t = answer-one (checkChecks g units bound t) (check-ones g units bound t)
 
--- of `peak_fault`
-pub peak-fault-one : (g : Graph) (t : List ℕ) (r s : Answer) → First (peakChecks g t) (refusalOf r) → First (peakChecks g t) (refusalOf s) → r ≡ s
-peak-fault-one g t = answer-one (peakChecks g t) (peak-ones g t)
-
 -- of `judge`
 pub judge-one : (g : Graph) (units : List ℕ) (bound : ℕ) (t : List ℕ) (f h : Finding) → Settled g units bound t f → Settled g units bound t h → f ≡ h
 judge-one g units bound t f h a b = finds-one g units bound t f h (a .asked ∙ sym (b .asked)) (a .finds) (b .finds)
-
--- of `peaks`
-pub peaks-one : (g : Graph) (t c d : List ℕ) → AllPeaks g t c → AllPeaks g t d → c ≡ d
-peaks-one g t c d a b =
-    same-row c d (a .long ∙ sym (b .long))
-    (λ k l. peak-one g t k _ _ (a .each k (omega (arith, a .long))) (b .each k (omega (arith, a .long))))

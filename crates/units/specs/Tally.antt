@@ -1,22 +1,16 @@
 -- The tally: a counter for each step and type, the mark that an operation leaves in it, and what is read off it.
 use mathlib.Core.Path.{_≡_}
-use mathlib.Core.Bool.{Bool}
 use mathlib.Core.List.{List}
 use Prim.Native.Nat.{ℕ, _+_, _*_, _≤_, _<_}
-use lib.Dec.{leb, ltb, eqb}
 use lib.ListN.{length}
 use Rattle.laws.specs.Rows.{at}
-use Rattle.laws.specs.Tests.{_and_}
 use Rattle.laws.specs.Count.{bit, count}
 use Rattle.model.specs.Limits as limit
 use Rattle.model.specs.Graph.{Graph, many}
 use Rattle.model.specs.Use.{runs}
+use Rattle.model.specs.RunLaws.{runsFor}
 use Rattle.model.specs.declared.Finding.{Finding}
 use Rattle.model.specs.declared.Finding.the-variants as found
-
--- an operation of type `of` that is busy from `start` to before `end` is of type k and running at step l
-unfoldable pub runsFor : ℕ → ℕ → ℕ → ℕ → ℕ → Bool
-runsFor of start end k l = eqb of k and (leb start l and ltb l end)
 
 -- the place of the counter of step l and type k
 abbrev pub cell : ℕ → ℕ → ℕ

@@ -66,5 +66,5 @@ pub fn checks() {
     say::text(b"13 check 1 3: ");
     verdict(units::check(&[2u8, 2], &[0u8, 0], 1, &none, &none, &[1u8], 4, &[1u16, 3]));
     say::text(b"13 peak 1 2: ");
-    peak(units::peak_use(&[2u8, 2], &[0u8, 0], 1, &none, &none, &[1u16, 2]));
+    peak(peak::peak_use(&[2u8, 2], &[0u8, 0], 1, &none, &none, &[1u16, 2]));
 }

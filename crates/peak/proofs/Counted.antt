@@ -8,8 +8,7 @@ use Rattle.laws.specs.Count.{bit, count, count-le}
 use Rattle.laws.specs.Count.{count-step, count-start}
 use Rattle.model.specs.Graph.{Graph, many, typeOf, busyTime}
 use Rattle.model.specs.Use.{runs, running}
-use Rattle.units.specs.Tally.{runsFor}
-use Rattle.units.proofs.RunsFor.{runs-for}
+use Rattle.model.specs.RunLaws.{runsFor, runs-for}
 
 -- n of the first i are
 pub record Counted (g : Graph) (t : List ℕ) (k l n i : ℕ) : Type 0 where

@@ -1,7 +1,7 @@
--- When an operation runs: of the type, from its start, and to before its end.
+-- When an operation runs, told by its numbers alone: it is of the type, from its start on, and to before its end.
 use mathlib.Core.Path.{_≡_, refl, sym, _∙_}
 use mathlib.Core.Logic.{⊎-elim}
-use mathlib.Core.Bool.{true, false}
+use mathlib.Core.Bool.{Bool, true, false}
 use mathlib.Core.List.{List}
 use Prim.Native.Nat.{ℕ, _+_, _≤_, _<_}
 use native.Mathlib.Omega.{arith}
@@ -10,11 +10,14 @@ use lib.Dec.{leb, ltb, eqb}
 use Rattle.laws.specs.Cases.{lt-or-le}
 use Rattle.laws.specs.Rows.{at}
 use Rattle.laws.specs.Tests.{_and_, and-true, and-left-false, and-right-false}
 use Rattle.model.specs.Graph.{Graph, typeOf, busyTime}
 use Rattle.model.specs.Use.{runs}
-use Rattle.units.specs.Tally.{runsFor}
 
--- the model's test is this one
+-- an operation of type `of` that is busy from `start` to before `end` is of type k and running at step l
+unfoldable pub runsFor : ℕ → ℕ → ℕ → ℕ → ℕ → Bool
+runsFor of start end k l = eqb of k and (leb start l and ltb l end)
+
+-- the test of unit use is this one
 pub runs-for : (g : Graph) (t : List ℕ) (k l i : ℕ) → runs g t k l i ≡ runsFor (typeOf g i) (at t i) (at t i + busyTime g i) k l
 unfolding runs runsFor
 runs-for g t k l i = refl

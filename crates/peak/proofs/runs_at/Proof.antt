@@ -1,11 +1,11 @@
--- `units::runs_at` meets its contract: one test after another, of type, start and end.
+-- `peak::runs_at` meets its contract: one test after another, of type, start and end.
 use mathlib.Core.Path.{sym, ap}
 use Rattle.laws.specs.Count.{bit}
-use Rattle.units.proofs.RunsFor.{for-other, for-early, for-over, for-runs}
+use Rattle.model.specs.RunLaws.{for-other, for-early, for-over, for-runs}
 use native.Mathlib.Omega.{arith}
 use borrow.Author.Needs.{needs}
-use Rattle.units.proofs.runs_at.Statement.{statement}
-use Rattle.units.proofs.runs_at.Tie as tie
+use Rattle.peak.proofs.runs_at.Statement.{statement}
+use Rattle.peak.proofs.runs_at.Tie as tie
 
 returns : tie.Need-returns
 returns c = ap bit (sym (for-other _ _ _ _ _ (c .if1 .taken)))

@@ -1,11 +1,11 @@
--- `units::peak_use` meets its contract: refused, the numbers are zeros; else each is its type's peak.
+-- `peak::peak_use` meets its contract: refused, the numbers are zeros; else each is its type's peak.
 use mathlib.Core.Path.{refl}
 use Rattle.model.specs.AnswerLaws.{first-told}
 use Rattle.model.specs.Verdicts.{Counts}
-use Rattle.units.proofs.Refused.{peak-countable}
+use Rattle.peak.proofs.Refused.{peak-countable}
 use borrow.Author.Needs.{needs}
-use Rattle.units.proofs.peak_use.Statement.{statement}
-use Rattle.units.proofs.peak_use.Tie as tie
+use Rattle.peak.proofs.peak_use.Statement.{statement}
+use Rattle.peak.proofs.peak_use.Tie as tie
 
 peak-fault-requires : tie.Need-peak-fault-requires
 peak-fault-requires c κs = search needs

@@ -13,7 +13,7 @@ use Rattle.model.specs.Limits as limit
 use Rattle.model.specs.Graph.{Graph, many, typeOf}
 use Rattle.model.specs.Use.{running}
 use Rattle.model.specs.UseLaws.{AtStarts, Met, peak-starts}
-use Rattle.units.specs.Peaking.{AllPeaks}
+use Rattle.peak.specs.Peaking.{AllPeaks}
 
 -- p is the largest count of type k at the starts of the first i operations
 pub record Top (g : Graph) (t : List ℕ) (k i p : ℕ) : Type 0 where

@@ -1,13 +1,13 @@
--- `units::running_at` meets its contract: a count grows by 1 for each operation that runs.
+-- `peak::running_at` meets its contract: a count grows by 1 for each operation that runs.
 use Prim.Native.Nat.{ℕ, _-_}
 use mathlib.Core.List.{List, []}
 use Rattle.model.specs.Graph.{lent}
-use Rattle.units.proofs.Counted.{Counted, counted-none, counted-step, counted-le, counted-end}
+use Rattle.peak.proofs.Counted.{Counted, counted-none, counted-step, counted-le, counted-end}
 use native.Mathlib.Omega.{arith}
 use borrow.Author.Needs.{needs}
 use lib.ListN.{length}
-use Rattle.units.proofs.running_at.Statement.{statement}
-use Rattle.units.proofs.running_at.Tie as tie
+use Rattle.peak.proofs.running_at.Statement.{statement}
+use Rattle.peak.proofs.running_at.Tie as tie
 
 abbrev Inv-loop : tie.InvT-loop
 Inv-loop delays types starts kind step many₀ i₀ many i = (kinds : ℕ) (from to : List ℕ) → Counted (lent delays types kinds from to) starts kind step many i

@@ -1,13 +1,13 @@
--- `units::peaks` meets its contract: each number is the largest count at the starts passed, and a maximum is met at a start.
+-- `peak::peaks` meets its contract: each number is the largest count at the starts passed, and a maximum is met at a start.
 use Prim.Native.Nat.{ℕ, _-_}
 use mathlib.Core.List.{List}
 use Rattle.model.specs.Graph.{lent}
-use Rattle.units.proofs.Peaked.{Peaked, peaked-none, peaked-step, peaked-end}
+use Rattle.peak.proofs.Peaked.{Peaked, peaked-none, peaked-step, peaked-end}
 use native.Mathlib.Omega.{arith}
 use borrow.Author.Needs.{needs}
 use lib.ListN.{length}
-use Rattle.units.proofs.peaks.Statement.{statement}
-use Rattle.units.proofs.peaks.Tie as tie
+use Rattle.peak.proofs.peaks.Statement.{statement}
+use Rattle.peak.proofs.peaks.Tie as tie
 
 abbrev Inv-loop : tie.InvT-loop
 Inv-loop delays types starts counts₀ i₀ counts i = (kinds : ℕ) (from to : List ℕ) → Peaked (lent delays types kinds from to) starts counts i

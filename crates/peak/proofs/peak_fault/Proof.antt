@@ -1,10 +1,10 @@
--- `units::peak_fault` meets its contract: the rules are asked in the table's order.
+-- `peak::peak_fault` meets its contract: the rules are asked in the table's order.
 use Rattle.model.specs.AnswerLaws.{first-told}
 use Rattle.model.specs.RefusalLaws.{first-hit, first-pass, sound, closed}
-use Rattle.units.proofs.Refused.{peak-shape}
+use Rattle.peak.proofs.Refused.{peak-shape}
 use borrow.Author.Needs.{needs}
-use Rattle.units.proofs.peak_fault.Statement.{statement}
-use Rattle.units.proofs.peak_fault.Tie as tie
+use Rattle.peak.proofs.peak_fault.Statement.{statement}
+use Rattle.peak.proofs.peak_fault.Tie as tie
 
 graph-fault-requires : tie.Need-graph-fault-requires
 graph-fault-requires c κs = search needs

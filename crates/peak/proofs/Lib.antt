@@ -1,0 +1,3 @@
+mod Counted
+mod Peaked
+mod Refused
