@@ -155,6 +155,7 @@ module _ (g : Graph) (c : Closed (order g)) (ones : List ℕ) where
     pub ones-closed : Closed (turned (ordered ones (g .from) (g .to)))
     ones-closed = record {
       few = omega (arith, c .few, u .long);
+      few-edges = omega (arith, c .few-edges, c .even);
       even = sym (c .even);
       source-in = λ e l. omega (arith, c .target-in e (omega (arith, c .even)), u .long);
       target-in = λ e l. omega (arith, c .source-in e (omega (arith, c .even)), u .long);

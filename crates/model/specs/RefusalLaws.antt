@@ -360,6 +360,7 @@ front-not-cycle g Own room r =
 pub closed : (g : Graph) → Sound g → Closed (order g)
 closed g s = record {
   few = s .few;
+  few-edges = s .few-edges;
   even = sym (s .even-ends);
   source-in = s .source-in;
   target-in = s .target-in;
@@ -371,6 +372,7 @@ closed g s = record {
 pub closed-turned : (o : Order) → Closed o → Closed (turned o)
 closed-turned o c = record {
   few = c .few;
+  few-edges = omega (arith, c .few-edges, c .even);
   even = sym (c .even);
   source-in = λ e l. c .target-in e (omega (arith, c .even));
   target-in = λ e l. c .source-in e (omega (arith, c .even));
