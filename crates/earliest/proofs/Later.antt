@@ -1,6 +1,6 @@
 -- The first step left after one edge more, case by case as the code tests.
 use mathlib.Core.Path.{_≡_, refl}
-use Prim.Native.Nat.{ℕ, zero, suc, _+_, _≤_, _<_}
+use Prim.Native.Nat.{ℕ, zero, suc, _+_, _≤_, _<_, max}
 use native.Mathlib.Nat.{not-suc-le-zero}
 use native.Mathlib.Omega.{arith}
 use Rattle.model.specs.PlacingSteps.{later}
@@ -22,3 +22,21 @@ pub later-same : (v start w : ℕ) → 1 ≤ v → 1 ≤ start → start + w ≤
 later-same zero start w p q l = absurd (not-suc-le-zero p)
 later-same (suc v) zero w p q l = absurd (not-suc-le-zero q)
 later-same (suc v) (suc start) w p q l = omega arith
+
+-- an operation that did not wait before the edge and waits after it has an unplaced source there
+pub later-zero : (v start w : ℕ) → 1 ≤ v → later v start w ≡ 0 → start ≡ 0
+later-zero zero start w p z = absurd (not-suc-le-zero p)
+later-zero (suc v) zero w p z = refl
+later-zero (suc v) (suc start) w p z = absurd (omega arith)
+
+-- where it does not wait after the edge, the source is placed
+pub later-placed : (v start w : ℕ) → (later v start w ≡ 0 → ⊥) → 1 ≤ start
+later-placed zero start w n = absurd (n refl)
+later-placed (suc v) zero w n = absurd (n refl)
+later-placed (suc v) (suc start) w n = omega arith
+
+-- and the later of the two steps is left
+pub later-max : (v start w : ℕ) → (later v start w ≡ 0 → ⊥) → later v start w ≡ max v (start + w)
+later-max zero start w n = absurd (n refl)
+later-max (suc v) zero w n = absurd (n refl)
+later-max (suc v) (suc start) w n = refl

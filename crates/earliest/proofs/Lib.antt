@@ -1,4 +1,5 @@
+mod Room
 mod Later
-mod Scan
-mod Fill
+mod Back
+mod Sweep
 mod Rounds

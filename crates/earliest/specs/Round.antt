@@ -1,29 +1,35 @@
--- One round: what the edges say of every operation, and what is placed by it.
+-- One round: each operation is visited, and placed at once if it waits for none.
 use mathlib.Core.Path.{_≡_}
+use mathlib.Core.Bool.{Bool, true, false}
 use mathlib.Core.List.{List}
-use Prim.Native.Nat.{ℕ, _+_, _≤_, _<_}
-use lib.ListN.{length}
+use Prim.Native.Nat.{ℕ, _+_, _-_, _<_}
 use Rattle.laws.specs.Rows.{at}
 use Rattle.laws.specs.Count.{marks}
-use Rattle.model.specs.Order.{Order, size}
+use Rattle.model.specs.Order.{Order, size, Closed}
 use Rattle.model.specs.Placing.{Waits}
-use Rattle.model.specs.PlacingSteps.{FirstStep, Part, Grown}
+use Rattle.model.specs.PlacingSteps.{Part}
+use Rattle.links.specs.Linking.{Linked}
 
--- steps has for each operation the first step at which it may start, and 0 where it waits
-pub record FirstSteps (o : Order) (s steps : List ℕ) : Type 0 where
-  pub each : (i : ℕ) → i < size o → FirstStep o s i (at steps i)
+-- what a visit starts from: part of the order is placed, and its edges are linked by their targets
+pub record Known (o : Order) (s : List ℕ) (links : List ℕ) : Type 0 where
+  pub closed : Closed o
+  pub part : Part o s
+  pub linked : Linked (o .to) links
 
--- s is s₀ with the free ones of its first n entries filled from the steps; r of them are new
-pub record Filled (steps : List ℕ) (n : ℕ) (s₀ s : List ℕ) (r : ℕ) : Type 0 where
-  pub long : length s ≡ length s₀
-  pub grown : Grown s₀ s
-  pub filled : (i : ℕ) → i < n → at s₀ i ≡ 0 → at s i ≡ at steps i
-  pub rest : (i : ℕ) → n ≤ i → at s i ≡ at s₀ i
-  pub counts : marks s n ≡ marks s₀ n + r
-  pub none : r ≡ 0 → (i : ℕ) → i < n → at s₀ i ≡ 0 → at s i ≡ 0
+-- a visit of i placed r more; where it placed none nothing changed, and i waits if it is left
+pub record Visit (o : Order) (i : ℕ) (s₀ s : List ℕ) (r : ℕ) : Type 0 where
+  pub part : Part o s
+  pub counts : marks s (size o) ≡ marks s₀ (size o) + r
+  pub same : r ≡ 0 → s ≡ s₀
+  pub stuck : r ≡ 0 → at s i ≡ 0 → Waits o s i
 
 -- a round from s₀ to s placed r more; where it placed none, all that is left waits
 pub record Round (o : Order) (s₀ s : List ℕ) (r : ℕ) : Type 0 where
   pub part : Part o s
   pub counts : marks s (size o) ≡ marks s₀ (size o) + r
   pub stuck : r ≡ 0 → (i : ℕ) → i < size o → at s i ≡ 0 → Waits o s i
+
+-- which of n comes k-th: counted from the first one up, or from the last one down
+abbrev pub turn : Bool → ℕ → ℕ → ℕ
+turn true n k = k
+turn false n k = n - 1 - k

@@ -1,12 +1,13 @@
 // Earliest starts of an order: as many operations are placed as can be, each at the first step at which it may start.
 ghost use mathlib.Core.Path.{_≡_};
-ghost use Prim.Native.Nat.{_+_, _*_, _≤_};
+ghost use Prim.Native.Nat.{ℕ, _+_, _*_, _≤_, _<_};
 ghost use lib.ListN.{length};
 ghost use Rattle.model.specs.Limits as limit;
 ghost use Rattle.model.specs.Order.{Closed, ordered};
 ghost use Rattle.model.specs.Placing.{Placing};
-ghost use Rattle.model.specs.PlacingSteps.{later, Part};
-ghost use Rattle.earliest.specs.Round.{FirstSteps, Filled, Round};
+ghost use Rattle.model.specs.PlacingSteps.{later, FirstStep};
+ghost use Rattle.earliest.specs.Round.{Known, Visit, Round, turn};
+use links::LINKS;
 use model::limits::OPERATIONS;
 
 // The first step that is left after one edge more, whose source has this start and weight: 0 once an operation waits.
@@ -24,72 +25,116 @@ fn after_edge(step: u16, start: u16, weight: u8) -> u16
     if step < end { end } else { step }
 }
 
-// For each operation the first step at which it may start, 0 where it waits: one pass over the edges.
-fn first_steps(
+// The first step at which i may start, 0 where it waits: the links lead from the last edge that enters it back to the first.
+fn first_step(
     weights: &[u8],
     from: &[u16],
     to: &[u16],
+    links: &[u16; LINKS],
+    i: usize,
     starts: &[u16; OPERATIONS],
-) -> [u16; OPERATIONS]
-    requires { ⌜ Closed (ordered (now weights) (now from) (now to)) ⌝ }
-    requires { ⌜ Part (ordered (now weights) (now from) (now to)) (now starts) ⌝ }
-    ensures { λ r. ⌜ FirstSteps (ordered (now (weights .entry)) (now (from .entry)) (now (to .entry))) (now (starts .entry)) r ⌝ }
+) -> u16
+    requires { ⌜ Known (ordered (now weights) (now from) (now to)) (now starts) (now links) ⌝ }
+    requires { ⌜ i < length (now weights) ⌝ }
+    ensures { λ r. ⌜ FirstStep (ordered (now (weights .entry)) (now (from .entry)) (now (to .entry))) (now (starts .entry)) i r ⌝ }
 {
-    let mut steps = [1u16; OPERATIONS];
-    let mut e = 0;
-    while e < from.len() {
+    let mut step = 1;
+    let mut edge = links[i] as usize;
+    while edge != 0 {
+        let e = edge - 1;
         let source = from[e] as usize;
-        let target = to[e] as usize;
-        steps[target] = after_edge(steps[target], starts[source], weights[source]);
-        e += 1;
+        step = after_edge(step, starts[source], weights[source]);
+        if step == 0 {
+            return 0;
+        }
+        edge = links[OPERATIONS + e] as usize;
     }
-    steps
+    step
 }
 
-// Each of the first n that has no start gets its step. How many steps other than 0 were given.
-fn place(steps: &[u16; OPERATIONS], n: usize, starts: &mut [u16; OPERATIONS]) -> usize
-    requires { ⌜ n ≤ limit.operations ⌝ }
-    requires { ⌜ length (now starts) ≡ limit.operations ⌝ }
-    ensures { λ r. ⌜ Filled (now (steps .entry)) n (now (starts .entry)) (now (starts .exit)) r ⌝ }
+// Places i if it has no start and waits for none. How many it placed: 0 or 1.
+fn visit(
+    weights: &[u8],
+    from: &[u16],
+    to: &[u16],
+    links: &[u16; LINKS],
+    i: usize,
+    starts: &mut [u16; OPERATIONS],
+) -> usize
+    requires { ⌜ Known (ordered (now weights) (now from) (now to)) (now starts) (now links) ⌝ }
+    requires { ⌜ i < length (now weights) ⌝ }
+    ensures { λ r. ⌜ Visit (ordered (now (weights .entry)) (now (from .entry)) (now (to .entry))) i (now (starts .entry)) (now (starts .exit)) r ⌝ }
+{
+    if starts[i] != 0 {
+        return 0;
+    }
+    let first = first_step(weights, from, to, links, i, starts);
+    if first == 0 {
+        return 0;
+    }
+    starts[i] = first;
+    1
+}
+
+// The operation that comes k-th of n: counted from the first one up, or from the last one down.
+fn kth(k: usize, n: usize, up: bool) -> usize
+    requires { ⌜ k < n ⌝ }
+    ensures { λ r. ⌜ r ≡ turn up n k ⌝ }
+{
+    if up { k } else { n - 1 - k }
+}
+
+// Visits each operation once, upward or downward; what is placed is seen by those after it. How many it placed.
+fn round(
+    weights: &[u8],
+    from: &[u16],
+    to: &[u16],
+    links: &[u16; LINKS],
+    up: bool,
+    starts: &mut [u16; OPERATIONS],
+) -> usize
+    requires { ⌜ Known (ordered (now weights) (now from) (now to)) (now starts) (now links) ⌝ }
+    ensures { λ r. ⌜ Round (ordered (now (weights .entry)) (now (from .entry)) (now (to .entry))) (now (starts .entry)) (now (starts .exit)) r ⌝ }
 {
     let mut placed = 0;
-    let mut i = 0;
-    while i < n {
-        let step = steps[i];
-        if starts[i] == 0 {
-            if step != 0 {
-                starts[i] = step;
-                placed += 1;
-            }
-        }
-        i += 1;
+    let mut k = 0;
+    while k < weights.len() {
+        let i = kth(k, weights.len(), up);
+        placed += visit(weights, from, to, links, i, starts);
+        k += 1;
     }
     placed
 }
 
-// Places each operation that waits for none. How many it placed.
-fn round(weights: &[u8], from: &[u16], to: &[u16], starts: &mut [u16; OPERATIONS]) -> usize
-    requires { ⌜ Closed (ordered (now weights) (now from) (now to)) ⌝ }
-    requires { ⌜ Part (ordered (now weights) (now from) (now to)) (now starts) ⌝ }
-    ensures { λ r. ⌜ Round (ordered (now (weights .entry)) (now (from .entry)) (now (to .entry))) (now (starts .entry)) (now (starts .exit)) r ⌝ }
+// Whether the first edge leads upward: the first round goes its way, as most graphs are numbered one way. The placing is the same either way.
+fn rises(from: &[u16], to: &[u16]) -> bool
+    requires { ⌜ length (now to) ≡ length (now from) ⌝ }
 {
-    let steps = first_steps(weights, from, to, starts);
-    place(&steps, weights.len(), starts)
+    if from.len() == 0 {
+        return true;
+    }
+    from[0] < to[0]
 }
 
-// Rounds until one places none. What is left has start 0: it waits for another that is left. How many are placed.
+// Rounds up and down until all are placed or one places none: what is left has start 0, and waits for another that is left. How many are placed.
 pub fn earliest(weights: &[u8], from: &[u16], to: &[u16], starts: &mut [u16; OPERATIONS]) -> usize
     requires { ⌜ Closed (ordered (now weights) (now from) (now to)) ⌝ }
     ensures { λ r. ⌜ Placing (ordered (now (weights .entry)) (now (from .entry)) (now (to .entry))) (now (starts .exit)) r ⌝ }
 {
     *starts = [0u16; OPERATIONS];
+    let links = links::link(to);
+    let mut up = rises(from, to);
     let mut total = 0;
     loop {
-        let placed = round(weights, from, to, starts);
+        let placed = round(weights, from, to, &links, up, starts);
+        total += placed;
         if placed == 0 {
             break;
         }
-        total += placed;
+        if total == weights.len() {
+            break;
+        }
+        up = !up;
     }
     total
 }
