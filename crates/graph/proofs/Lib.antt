@@ -1,2 +1,3 @@
 mod Unitless
+mod Manned
 mod Filled

@@ -29,6 +29,21 @@ front-one g Own room =
 pub unit-fault-one : (g : Graph) (units : List ℕ) (r s : Answer) → First (unitless g units) (refusalOf r) → First (unitless g units) (refusalOf s) → r ≡ s
 unit-fault-one g units = answer-one (unitless g units) (unitless-ones g units)
 
+-- of `graph_unit_fault`
+pub graph-unit-fault-one : (g : Graph) (Own : Type 0) (units : List ℕ) (r s : Answer) → First (shape g Own ++ unitless g units) (refusalOf r)
+    → First (shape g Own ++ unitless g units) (refusalOf s) → r ≡ s
+graph-unit-fault-one g Own units =
+    answer-one (shape g Own ++ unitless g units) (ones-append (shape g Own) (unitless g units) (shape-ones g Own) (unitless-ones g units))
+
+-- of `front_unit_fault`
+pub front-unit-fault-one : (g : Graph) (Own : Type 0) (room : ℕ) (units : List ℕ) (r s : Answer)
+    → First ((shape g Own ++ output g room) ++ unitless g units) (refusalOf r)
+    → First ((shape g Own ++ output g room) ++ unitless g units) (refusalOf s) → r ≡ s
+front-unit-fault-one g Own room units =
+    answer-one ((shape g Own ++ output g room) ++ unitless g units)
+    (ones-append (shape g Own ++ output g room) (unitless g units)
+    (ones-append (shape g Own) (output g room) (shape-ones g Own) (output-ones g room)) (unitless-ones g units))
+
 -- of `fill`: one content of the output
 pub fill-one : (row before : List ℕ) (n : ℕ) (out other : List ℕ) → out ≡ over (take n row) before → other ≡ over (take n row) before → out ≡ other
 fill-one row before n out other a b = a ∙ sym b

@@ -6,7 +6,7 @@ use model::limits::KINDS;
 use model::limits::LONGEST;
 use model::limits::OPERATIONS;
 ghost use mathlib.Core.Path.{_≡_};
-ghost use mathlib.Core.Bool.{false};
+ghost use mathlib.Core.Bool.{true, false};
 ghost use mathlib.Core.List.{List, _++_};
 ghost use Prim.Native.Nat.{ℕ, _≤_, _<_};
 ghost use lib.ListN.{length, take};
@@ -33,6 +33,16 @@ fn too_large(delays: &[u8], kinds: usize, from: &[u16]) -> bool
         return true;
     }
     false
+}
+
+// Whether there are as many unit counts as types, and as many entries in the row that only this question takes as operations.
+pub fn rows_match(units: usize, kinds: usize, entries: usize, operations: usize) -> bool
+    ensures { λ r. ⌜ Tells r ((units ≡ kinds) × (entries ≡ operations)) ⌝ }
+{
+    if units != kinds {
+        return false;
+    }
+    entries == operations
 }
 
 // Whether rows that must match differ in length, however many types there are.
@@ -172,7 +182,7 @@ fn unitless_kind(delays: &[u8], types: &[u8], kinds: usize, units: &[u8]) -> usi
 }
 
 // Rule 6, of a sound graph: the lowest type in use that has no unit is refused. The edges are lent for the graph to be whole; no test reads them.
-pub fn unit_fault(
+fn unit_fault(
     delays: &[u8],
     types: &[u8],
     kinds: usize,
@@ -189,6 +199,47 @@ pub fn unit_fault(
         return Answer::Refused(Refusal::NoUnit(kind));
     }
     Answer::Done
+}
+
+// Rules 1 to 4 and 6, of a question without an output row: the first that applies is given. Where `matched`, there is a unit count for each type.
+pub fn graph_unit_fault(
+    delays: &[u8],
+    types: &[u8],
+    kinds: usize,
+    from: &[u16],
+    to: &[u16],
+    units: &[u8],
+    matched: bool,
+) -> Answer
+    requires { ⌜ (matched ≡ true → length (now units) ≡ kinds) ⌝ }
+    ensures { λ r. ⌜ First (shape (lent (now (delays .entry)) (now (types .entry)) kinds (now (from .entry)) (now (to .entry))) (matched ≡ false) ++ unitless (lent (now (delays .entry)) (now (types .entry)) kinds (now (from .entry)) (now (to .entry))) (now (units .entry))) (refusalOf r) ⌝ }
+{
+    let fault = graph_fault(delays, types, kinds, from, to, matched);
+    match fault {
+        Answer::Refused(why) => Answer::Refused(why),
+        Answer::Done => unit_fault(delays, types, kinds, from, to, units),
+    }
+}
+
+// Rules 1 to 6: the first that applies is given. `room` is the length of the output row; where `matched`, there is a unit count for each type.
+pub fn front_unit_fault(
+    delays: &[u8],
+    types: &[u8],
+    kinds: usize,
+    from: &[u16],
+    to: &[u16],
+    units: &[u8],
+    matched: bool,
+    room: usize,
+) -> Answer
+    requires { ⌜ (matched ≡ true → length (now units) ≡ kinds) ⌝ }
+    ensures { λ r. ⌜ First ((shape (lent (now (delays .entry)) (now (types .entry)) kinds (now (from .entry)) (now (to .entry))) (matched ≡ false) ++ output (lent (now (delays .entry)) (now (types .entry)) kinds (now (from .entry)) (now (to .entry))) room) ++ unitless (lent (now (delays .entry)) (now (types .entry)) kinds (now (from .entry)) (now (to .entry))) (now (units .entry))) (refusalOf r) ⌝ }
+{
+    let fault = front(delays, types, kinds, from, to, matched, room);
+    match fault {
+        Answer::Refused(why) => Answer::Refused(why),
+        Answer::Done => unit_fault(delays, types, kinds, from, to, units),
+    }
 }
 
 // The output's first n entries are the row's, and the rest of the output stays. The row is read as a slice, since a slice tells its length.

@@ -1,7 +1,8 @@
--- How two numbers lie to each other, and what a test tells: the case splits that every proof leans on.
+-- How two numbers lie to each other, what a test tells, and what is there or not: the case splits that every proof leans on.
 use mathlib.Core.Path.{_≡_, refl, sym, _∙_}
 use mathlib.Core.Logic.{_⊎_, inl, inr, ⊎-elim}
 use mathlib.Core.Bool.{Bool, true, false, true≢false, false≢true}
+use mathlib.Core.Option.{Option, none, some, Option·none-ne-some, Option·some-injective}
 use Prim.Native.Nat.{ℕ, _≤_, _<_}
 use native.Mathlib.Decide.{decLe, ℕ-discrete}
 use native.Mathlib.Omega.{arith}
@@ -14,6 +15,13 @@ le-or-lt a b = elim (decLe a b) [ yes p ↦ inl p | no p ↦ inr (omega arith) ]
 
 pub lt-or-le : (a b : ℕ) → (a < b) ⊎ (b ≤ a)
 lt-or-le a b = elim (decLe b a) [ yes p ↦ inr p | no p ↦ inl (omega arith) ]
+
+-- numbers decide: what is not below is at most, what is not at most is below
+pub at-most : {a b : ℕ} → (a < b → ⊥) → b ≤ a
+at-most h = omega arith
+
+pub less : {a b : ℕ} → (b ≤ a → ⊥) → a < b
+less h = omega arith
 
 -- numbers that are not different are equal
 pub equal : {a b : ℕ} → ((a ≡ b → ⊥) → ⊥) → a ≡ b
@@ -41,6 +49,13 @@ tells-one true true a b = refl
 tells-one true false a b = absurd (b .none refl (a .yes refl))
 tells-one false true a b = absurd (a .none refl (b .yes refl))
 tells-one false false a b = refl
+
+-- none is not some, and what is there is one thing
+pub none-some : {A : Type 0} {r : A} → _≡_ {A = Option A} none (some r) → ⊥
+none-some {A} {r} e = Option·none-ne-some r e
+
+pub some-one : {A : Type 0} {r s : A} → _≡_ {A = Option A} (some r) (some s) → r ≡ s
+some-one {A} {r} {s} e = Option·some-injective r s e
 
 -- an equation leaves one value
 pub equation-one : {A : Type 0} {x a b : A} → a ≡ x → b ≡ x → a ≡ b

@@ -7,19 +7,15 @@ use native.Mathlib.Omega.{arith}
 use lib.ListN.{length}
 use Rattle.model.specs.Graph.{Graph, order, many, Sound}
 use Rattle.model.specs.Refusals.{Rule, First, shape, output, unitless, cyclic}
-use Rattle.model.specs.RefusalLaws.{first-none-append, first-pass, first-hit, room-enough, sound, own-not, Never, never-append, shape-never, output-never, unitless-never}
+use Rattle.model.specs.RefusalLaws.{first-none-append, room-enough, sound, own-not, Never, never-append, shape-never, output-never, unitless-never}
 use Rattle.model.specs.Answers.{refusalOf, numbered}
-use Rattle.model.specs.AnswerLaws.{first-told}
+use Rattle.model.specs.AnswerLaws.{first-told, refused-passes}
 use Rattle.model.specs.FrameLaws.{refused-stays, answered-refused, answered-passed}
 use Rattle.model.specs.declared.Answer.{Answer}
 use Rattle.model.specs.declared.Answer.the-variants.{Done, Refused}
 use Rattle.model.specs.declared.Refusal.{Refusal}
 use Rattle.precedence.specs.Tried.{Tried}
 use Rattle.lister.specs.Asking.{Begun}
-
--- an answer that refuses is no pass
-pub refused-passes : (why : Refusal) {P : Type 0} → refusalOf (Refused why) ≡ none → P
-refused-passes why e = let z : _≡_ {A = ℕ} 0 1 = cc in absurd (omega arith)
 
 module _ (g : Graph) (units : List ℕ) (Own : Type 0) (before : List ℕ) where
   -- refusals 1 to 5, and 1 to 6
@@ -48,39 +44,29 @@ module _ (g : Graph) (units : List ℕ) (Own : Type 0) (before : List ℕ) where
     earliest = refused-passes why;
   }
 
-  module _ {a : Answer} (h : First five (refusalOf a)) where
+  module _ {a : Answer} (h : First six (refusalOf a)) where
     pub begun-refused : {why : Refusal} (s : List ℕ) → a ≡ Refused why → Begun g units Own before (Refused why) s before
-    begun-refused {why} s e = refused why s (first-hit five (unitless g units) (numbered why) (first-told five e h))
+    begun-refused {why} s e = refused why s (first-told six e h)
 
     module _ (e : a ≡ Done) where
       parts : First (shape g Own) none × First (output g (length before)) none
-      parts = first-none-append (shape g Own) (output g (length before)) (first-told five e h)
+      parts =
+          first-none-append (shape g Own) (output g (length before)) (first-none-append five (unitless g units) (first-told six e h) .0)
 
-      -- what the first five leave where they say nothing
+      -- what the first six leave where they say nothing
       pub begun-sound : Sound g
       begun-sound = sound g Own (parts .0)
-
-      pub begun-own : Own → ⊥
-      begun-own = own-not g Own (parts .0)
 
       pub begun-room : many g ≤ length before
       begun-room = room-enough g (length before) (parts .1)
 
-      module _ {b : Answer} (k : First (unitless g units) (refusalOf b)) where
-        pub begun-unitless : {why : Refusal} (s : List ℕ) → b ≡ Refused why → Begun g units Own before (Refused why) s before
-        begun-unitless {why} s d =
-            refused why s
-            (first-pass five (unitless g units) (some (numbered why)) (first-told five e h) (first-told (unitless g units) d k))
-
-        -- the seventh decides
-        pub begun-placed : {r : Answer} {s after : List ℕ} → b ≡ Done → Tried (order g) before r s after → Begun g units Own before r s after
-        begun-placed {r} {s} {after} d t = record {
-          answered = answered-passed (order g) six (cyclic (order g)) before (λ r. r ≡ before) (refusalOf r) after
-              (first-pass five (unitless g units) none (first-told five e h) (first-told (unitless g units) d k))
-              (t .answered);
-          sound = λ p. begun-sound;
-          own = λ p. begun-own;
-          room = λ p. begun-room;
-          long = λ p. t .placing .long;
-          earliest = t .earliest;
-        }
+      -- the seventh decides
+      pub begun-placed : {r : Answer} {s after : List ℕ} → Tried (order g) before r s after → Begun g units Own before r s after
+      begun-placed {r} {s} {after} t = record {
+        answered = answered-passed (order g) six (cyclic (order g)) before (λ r. r ≡ before) (refusalOf r) after (first-told six e h) (t .answered);
+        sound = λ p. begun-sound;
+        own = λ p. own-not g Own (parts .0);
+        room = λ p. begun-room;
+        long = λ p. t .placing .long;
+        earliest = t .earliest;
+      }

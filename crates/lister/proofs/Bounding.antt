@@ -6,26 +6,19 @@ use Prim.Native.Nat.{ℕ, _-_, _≤_, _<_}
 use native.Mathlib.Omega.{arith}
 use Rattle.laws.specs.Rows.{at, tabulate, tabulate-long, tabulate-at}
 use Rattle.model.specs.Limits as limit
-use Rattle.model.specs.Order.{Order, Closed}
+use Rattle.model.specs.Order.{Closed}
 use Rattle.model.specs.Graph.{Graph, order, many}
 use Rattle.model.specs.Tables.{Earliest, Latency, Mobility}
-use Rattle.model.specs.TableLaws.{earliest-one, earliest-same, latest-same, within-same, latency-within, asap-alap, mobility-one}
-use Rattle.model.specs.Refusals.{First, Late, large-bound, late-bound}
+use Rattle.model.specs.TableLaws.{earliest-same, latest-same, latency-within, not-late, asap-alap, mobility-one}
+use Rattle.model.specs.Refusals.{First, large-bound, late-bound}
 use Rattle.model.specs.RefusalLaws.{first-hit, first-pass, first-says, first-silent, first-end, flat-says, flat-silent}
+use Rattle.model.specs.AnswerLaws.{refused-passes}
 use Rattle.model.specs.Listing.{product, ManyWindows}
 use Rattle.model.specs.declared.Answer.the-variants.{Done, Refused}
 use Rattle.model.specs.declared.Refusal.the-variants.{BoundTooLarge, BoundTooSmall, TooManyWindows}
 use Rattle.tables.specs.Begun.{Room, LatestRow}
 use Rattle.lister.specs.Search.{spans, Windows}
 use Rattle.lister.specs.Asking.{Bounded}
-use Rattle.lister.proofs.Beginning.{refused-passes}
-
--- the latency of any earliest starts is that of these
-not-late : (o : Order) → Closed o → (early : List ℕ) → Earliest o early → (l bound : ℕ) → Latency o early l → l ≤ bound → Late o bound → ⊥
-not-late o closed early is l bound ends up x =
-    let same = earliest-one o early (x .asap) is (x .earliest) in
-    let inside = within-same o closed early (x .asap) same bound (latency-within o early l bound ends up) in
-    absurd (omega (arith, x .below, x .ends .least bound inside))
 
 module _ (g : Graph) (closed : Closed (order g)) (bound : ℕ) (early : List ℕ) (is-early : Earliest (order g) early) where
   -- above the last step: refusal 8

@@ -12,8 +12,7 @@ use Rattle.laws.specs.Count.{bit, count-le, count-start, count-step}
 use Rattle.laws.specs.Greatest.{Greatest, greatest}
 use Rattle.model.specs.Graph.{Graph}
 use Rattle.model.specs.Use.{runs}
-use Rattle.model.specs.UseLaws.{Runs, runs-or-not}
-use Rattle.model.specs.LawfulLaws.{at-last-start}
+use Rattle.model.specs.UseLaws.{Runs, runs-or-not, at-last-start}
 use Rattle.lister.specs.Fit.{users, inUse, Calm, Room}
 
 -- the operations before i are counted

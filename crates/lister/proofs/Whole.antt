@@ -19,8 +19,8 @@ use Rattle.model.specs.Graph.{Graph, order, many, typeOf, Sound}
 use Rattle.model.specs.Order.{source, target}
 use Rattle.model.specs.Tables.{Earliest, Latest}
 use Rattle.model.specs.Use.{runs, running, Lawful}
-use Rattle.model.specs.UseLaws.{runs-true}
-use Rattle.model.specs.LawfulLaws.{runningFirst, lawful-in-window}
+use Rattle.model.specs.UseLaws.{runs-true, runningFirst}
+use Rattle.model.specs.LawfulLaws.{lawful-in-window}
 use Rattle.model.specs.Listing.{Later, Least, NoneLeft, Gives}
 use Rattle.model.specs.declared.Listed.{Listed}
 use Rattle.model.specs.declared.Listed.the-variants as answers

@@ -4,7 +4,7 @@ use mathlib.Core.List.{List, []}
 use Prim.Native.Nat.{ℕ, _+_, _<_, _≤_}
 use Rattle.laws.specs.Rows.{at}
 use Rattle.model.specs.Graph.{Graph, edgesOf}
-use Rattle.model.specs.LawfulLaws.{runningFirst}
+use Rattle.model.specs.UseLaws.{runningFirst}
 
 -- edge e is kept, if both its ends are at most i
 pub record EdgeKept (delays from to t : List ℕ) (i e : ℕ) : Type 0 where

@@ -39,16 +39,11 @@ fn earliest_starts(
     requires { ⌜ (matched ≡ true → length (now units) ≡ kinds) ⌝ }
     ensures { λ r. ⌜ Begun (lent (now (delays .entry)) (now (types .entry)) kinds (now (from .entry)) (now (to .entry))) (now (units .entry)) (matched ≡ false) (now (out .entry)) r (now (starts .exit)) (now (out .exit)) ⌝ }
 {
-    let fault = graph::front(delays, types, kinds, from, to, matched, out.len());
+    let room = out.len();
+    let fault = graph::front_unit_fault(delays, types, kinds, from, to, units, matched, room);
     match fault {
         Answer::Refused(why) => Answer::Refused(why),
-        Answer::Done => {
-            let unitless = graph::unit_fault(delays, types, kinds, from, to, units);
-            match unitless {
-                Answer::Refused(why) => Answer::Refused(why),
-                Answer::Done => precedence::place(delays, from, to, starts, out),
-            }
-        }
+        Answer::Done => precedence::place(delays, from, to, starts, out),
     }
 }
 
@@ -220,18 +215,6 @@ fn ask(
     }
 }
 
-// Whether the unit counts are as many as the types, and the entries of the row asked after as many as the operations.
-fn even(units: usize, kinds: usize, asked: usize, operations: usize) -> bool
-    ensures { λ r. ⌜ Tells r ((units ≡ kinds) × (asked ≡ operations)) ⌝ }
-{
-    if units == kinds {
-        if asked == operations {
-            return true;
-        }
-    }
-    false
-}
-
 // The least lawful schedule into the first entries of `out`; or none left, or a refusal.
 pub fn first(
     delays: &[u8],
@@ -246,7 +229,7 @@ pub fn first(
     ensures { λ r. ⌜ ListerAnswer (lent (now (delays .entry)) (now (types .entry)) kinds (now (from .entry)) (now (to .entry))) (now (units .entry)) bound none (now (out .entry)) r (now (out .exit)) ⌝ }
 {
     let blank = [0u16; OPERATIONS];
-    let matched = even(units.len(), kinds, 0, 0);
+    let matched = graph::rows_match(units.len(), kinds, 0, 0);
     ask(
         delays,
         types,
@@ -276,7 +259,7 @@ pub fn next(
 ) -> Listed
     ensures { λ r. ⌜ ListerAnswer (lent (now (delays .entry)) (now (types .entry)) kinds (now (from .entry)) (now (to .entry))) (now (units .entry)) bound (some (now (after .entry))) (now (out .entry)) r (now (out .exit)) ⌝ }
 {
-    let matched = even(units.len(), kinds, after.len(), delays.len());
+    let matched = graph::rows_match(units.len(), kinds, after.len(), delays.len());
     ask(
         delays,
         types,

@@ -1,9 +1,10 @@
--- No two answers share a number and a place: a way back from the pair to the refusal.
+-- No two answers share a number and a place: a way back from the pair to the refusal. An answer that refuses is no pass.
 use mathlib.Core.Path.{_≡_, refl, sym, ap, subst, _∙_}
 use mathlib.Core.Option.{Option, none, some}
 use mathlib.Core.List.{List, [], _∷_}
 use Prim.Native.Nat.{ℕ}
 use lib.ListN.{getD}
+use Rattle.laws.specs.Cases.{none-some}
 use Rattle.model.specs.Refusals.{Rule, First}
 use Rattle.model.specs.RefusalLaws.{Ones, first-one}
 use Rattle.model.specs.Answers.{numbered, refusalOf}
@@ -61,6 +62,10 @@ answer-back (Refused r) = ap Refused (unnumbered-numbered r)
 -- no two answers give the same refusal
 pub refusal-one : (a b : Answer) → refusalOf a ≡ refusalOf b → a ≡ b
 refusal-one a b e = sym (answer-back a) ∙ ap answerOf e ∙ answer-back b
+
+-- an answer that refuses is no pass
+pub refused-passes : (why : Refusal) {P : Type 0} → refusalOf (Refused why) ≡ none → P
+refused-passes why e = absurd (none-some (sym e))
 
 -- what is said of an answer is said of the same answer in other words
 pub first-told : (rules : List Rule) {a b : Answer} → a ≡ b → First rules (refusalOf a) → First rules (refusalOf b)

@@ -1,6 +1,5 @@
--- The test for a lawful schedule tells; its starts are from 1 to the bound and lie between ASAP and ALAP; unit use is bounded at every step where it is at every start.
+-- The test for a lawful schedule tells; its starts are from 1 to the bound and lie between ASAP and ALAP.
 use mathlib.Core.Path.{_≡_}
-use mathlib.Core.Logic.{_⊎_, ⊎-elim}
 use mathlib.Core.List.{List}
 use Prim.Native.Nat.{ℕ, _+_, _≤_, _<_}
 use native.Mathlib.Omega.{arith}
@@ -8,43 +7,13 @@ use lib.ListN.{length}
 use Rattle.laws.specs.Cases.{Tells}
 use Rattle.laws.specs.TellLaws.{tells-as, tells-le, tells-both, tells-every}
 use Rattle.laws.specs.Rows.{at}
-use Rattle.laws.specs.Count.{count, count-none}
-use Rattle.laws.specs.Counting.{count-mono}
-use Rattle.laws.specs.Greatest.{Greatest, greatest}
 use Rattle.laws.specs.WordLaws.{Word}
 use Rattle.model.specs.Order.{source, target}
-use Rattle.model.specs.Graph.{Graph, order, many, edgesOf, delay, typeOf, Sound}
+use Rattle.model.specs.Graph.{Graph, order, many, edgesOf, delay, Sound}
 use Rattle.model.specs.Tables.{Earliest, Latest}
-use Rattle.model.specs.Use.{runs, running, Lawful}
-use Rattle.model.specs.UseLaws.{Runs, runs-true, runs-yes, runs-no, runs-or-not}
+use Rattle.model.specs.Use.{running, Lawful}
+use Rattle.model.specs.UseLaws.{first-starts-enough}
 use Rattle.model.specs.Listing.{isLawful}
-
--- ---- count at starts only
--- how many of the first m operations are of type k and running at step l
-abbrev pub runningFirst : Graph → List ℕ → ℕ → ℕ → ℕ → ℕ
-runningFirst g t m k l = count (runs g t k l) m
-
-module _ (g : Graph) (t : List ℕ) (m k l : ℕ) where
-  -- those of the first m that run at l run at the last start among them
-  pub at-last-start : (last : Greatest (Runs g t k l) (at t) m) → runningFirst g t m k l ≤ runningFirst g t m k (at t (last .place))
-  at-last-start last =
-      count-mono (runs g t k l) (runs g t k (at t (last .place))) m
-      (λ i b e.
-      let r = runs-true g t k l i e in
-      runs-yes g t k (at t (last .place)) i
-      (record {
-        kind = r .kind;
-        started = last .most i b r;
-        unfinished = omega (arith, r .unfinished, last .holds .started);
-      }))
-
-  -- so what bounds unit use at each start bounds it at every step
-  pub first-starts-enough : (most : ℕ) → ((j : ℕ) → j < m → typeOf g j ≡ k → runningFirst g t m k (at t j) ≤ most) → runningFirst g t m k l ≤ most
-  first-starts-enough most each =
-      ⊎-elim
-      (λ last. omega (arith, at-last-start last, each (last .place) (last .inside) (last .holds .kind)))
-      (λ none. omega (arith, count-none (runs g t k l) m (λ i b. runs-no g t k l i (none i b))))
-      (greatest (Runs g t k l) (at t) m (λ i b. runs-or-not g t k l i))
 
 -- ---- what a lawful schedule is made of
 module _ (g : Graph) (sound : Sound g) (units : List ℕ) (bound : ℕ) (t : List ℕ) where

@@ -3,9 +3,9 @@ use mathlib.Core.Path.{_≡_, refl, sym, ap, subst, _∙_}
 use mathlib.Core.Option.{Option, none, some}
 use mathlib.Core.List.{List, [], _∷_}
 use Prim.Native.Nat.{ℕ}
-use native.Mathlib.Omega.{arith}
 use lib.ListN.{length, take, drop}
 use lib.Seq.{take-at}
+use Rattle.laws.specs.Cases.{none-some, some-one}
 use Rattle.model.specs.Graph.{Graph, order, many, Sound}
 use Rattle.model.specs.Refusals.{Rule, First, output, unitless, cyclic}
 use Rattle.model.specs.RefusalLaws.{Ones, first-none-append, sound, first-one, flat-one, ones-single, ones-append, shape-ones, output-ones, unitless-ones}
@@ -28,12 +28,6 @@ lister-ones g units bound asked room =
     (cyclic-ones (order g)))
     (ones-append _ _ (ones-append _ _ (large-bound-ones bound) (late-bound-ones (order g) bound))
     (ones-single _ (flat-one 10 (ManyWindows g bound))))
-
-none-some : {r : ℕ × ℕ} → _≡_ {A = Option (ℕ × ℕ)} none (some r) → ⊥
-none-some e = let z : _≡_ {A = ℕ} 0 1 = cc in omega arith
-
-some-one : {r s : ℕ × ℕ} → _≡_ {A = Option (ℕ × ℕ)} (some r) (some s) → r ≡ s
-some-one e = cc
 
 module _ (g : Graph) (units : List ℕ) (bound : ℕ) (asked : Option (List ℕ)) (out : List ℕ) where
   -- refusals 1 to 10 of this question

@@ -1,13 +1,16 @@
 -- The table says one refusal at most; how `First` is put together and taken apart; what the first four rows leave when they say nothing.
 use mathlib.Core.Path.{_≡_, refl, sym, ap, subst}
 use mathlib.Core.Logic.{_⊎_, inl, inr, ⊎-elim}
+use mathlib.Core.Bool.{false}
 use mathlib.Core.Option.{Option, none, some}
 use mathlib.Core.List.{List, [], _∷_, _++_}
 use Prim.Native.Nat.{ℕ, zero, suc, _≤_, _<_}
 use native.Mathlib.Omega.{arith}
 use borrow.Author.Count.{below-none, below-more}
+use borrow.Author.Tests.{eqb-false, ne-eqb}
+use lib.Dec.{eqb}
 use lib.ListN.{length}
-use Rattle.laws.specs.Cases.{equal}
+use Rattle.laws.specs.Cases.{at-most, less, equal}
 use Rattle.laws.specs.Rows.{at}
 use Rattle.laws.specs.Lowest.{None, Lowest, lowest-one}
 use Rattle.model.specs.Limits as limit
@@ -197,13 +200,6 @@ good-edge a b (BadEdge.to l) = omega arith
 
 -- ---- the table's first four rows
 
--- what is not refused holds: numbers decide
-at-most : {a b : ℕ} → (a < b → ⊥) → b ≤ a
-at-most h = omega arith
-
-less : {a b : ℕ} → (b ≤ a → ⊥) → a < b
-less h = omega arith
-
 -- rows that are not uneven match
 pub even-types : {g : Graph} {Own : Type 0} → (Uneven g Own → ⊥) → many g ≡ length (g .types)
 even-types even = equal (λ n. even (Uneven.types n))
@@ -288,6 +284,14 @@ shape-own-then g P Q there back rest x h =
 -- the same with nothing after it
 pub shape-own : (g : Graph) (P Q : Type 0) → (P → Q) → (Q → P) → (x : Option (ℕ × ℕ)) → First (shape g P) x → First (shape g Q) x
 shape-own g P Q there back x h = shape-own-then g P Q there back [] x h
+
+-- where the question's own rows are one whose length must be another's: a test may tell that it is not, and where nothing is said it is
+module _ (g : Graph) (a b : ℕ) where
+  pub shape-test-then : (rest : List Rule) (x : Option (ℕ × ℕ)) → First (shape g (eqb a b ≡ false) ++ rest) x → First (shape g (a ≡ b → ⊥) ++ rest) x
+  shape-test-then rest x h = shape-own-then g (eqb a b ≡ false) (a ≡ b → ⊥) (eqb-false a b) (ne-eqb a b) rest x h
+
+  pub own-equal : First (shape g (a ≡ b → ⊥)) none → a ≡ b
+  own-equal h = equal (own-not g (a ≡ b → ⊥) h)
 
 -- ---- the fifth and the sixth
 

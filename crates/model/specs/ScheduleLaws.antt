@@ -8,6 +8,7 @@ use native.Mathlib.Omega.{arith}
 use lib.Dec.{eqb}
 use lib.ListN.{length, take, replicate}
 use borrow.Author.Tests.{eq-eqb, eqb-true}
+use Rattle.laws.specs.Cases.{none-some, some-one}
 use Rattle.laws.specs.Rows.{at, over}
 use Rattle.laws.specs.Counting.{some-or-none}
 use Rattle.model.specs.Limits as limit
@@ -85,16 +86,13 @@ list-answer-one g units out (answers.Latency l) (answers.Latency m) a b x y =
     let same = given-one g units out l m a b (row-is (order g) out (ListGiven g units out l) a (x .row)) (row-is (order g) out (ListGiven g units out m) b (y .row)) in
     (ap answers.Latency (same .0), same .1)
 list-answer-one g units out (answers.Latency l) (answers.Refused w) a b x y =
-    let e = first-one (listChecks g units (length out)) (list-ones g units (length out)) _ _ (x .first) (y .first) in
-    absurd (let z : _≡_ {A = ℕ} 0 1 = cc in omega arith)
+    absurd (none-some (first-one (listChecks g units (length out)) (list-ones g units (length out)) _ _ (x .first) (y .first)))
 list-answer-one g units out (answers.Refused w) (answers.Latency m) a b x y =
-    let e = first-one (listChecks g units (length out)) (list-ones g units (length out)) _ _ (x .first) (y .first) in
-    absurd (let z : _≡_ {A = ℕ} 0 1 = cc in omega arith)
+    absurd (none-some (first-one (listChecks g units (length out)) (list-ones g units (length out)) _ _ (y .first) (x .first)))
 list-answer-one g units out (answers.Refused v) (answers.Refused w) a b x y =
     let both = answered-one (order g) (listChecks g units (length out)) out (ListGiven g units out 0) (list-ones g units (length out)) (shown-one (order g)) _ _ a b
     (λ p q. given-one g units out 0 0 a b p q .1) x y in
-    let e = both .0 in
-    (ap answers.Refused (numbered-one v w (cc)), both .1)
+    (ap answers.Refused (numbered-one v w (some-one (both .0))), both .1)
 
 -- all are placed, or not
 pub all-or-not : (g : Graph) (t : List ℕ) → AllPlaced g t ⊎ (AllPlaced g t → ⊥)

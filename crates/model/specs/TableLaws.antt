@@ -9,6 +9,7 @@ use Rattle.laws.specs.Rows.{at, tabulate, tabulate-long, tabulate-at, same-row}
 use Rattle.model.specs.Order.{Order, turned, size, edgeCount, weight, source, target, Closed, Edge, Walk, one, more, Cyclic}
 use Rattle.model.specs.Graph.{Graph, order, many}
 use Rattle.model.specs.Tables.{Keeps, Within, Earliest, Latest, Asap, Alap, Mobility, Latency}
+use Rattle.model.specs.Refusals.{Late}
 
 -- ---- one value
 pub earliest-one : (o : Order) (s t : List ℕ) → Earliest o s → Earliest o t → (i : ℕ) → i < size o → at s i ≡ at t i
@@ -125,6 +126,13 @@ module _ (o : Order) (c : Closed o) (bound : ℕ) where
 -- ---- a bound at or above the latency
 pub latency-within : (o : Order) (t : List ℕ) (l bound : ℕ) → Latency o t l → l ≤ bound → Within o bound t
 latency-within o t l bound h up = record { ends = λ i m. omega (arith, h .within .ends i m) }
+
+-- such a bound is not below the ASAP latency: the latency of any earliest starts is that of these
+pub not-late : (o : Order) → Closed o → (early : List ℕ) → Earliest o early → (l bound : ℕ) → Latency o early l → l ≤ bound → Late o bound → ⊥
+not-late o closed early is l bound ends up x =
+    let same = earliest-one o early (x .asap) is (x .earliest) in
+    let inside = within-same o closed early (x .asap) same bound (latency-within o early l bound ends up) in
+    absurd (omega (arith, x .below, x .ends .least bound inside))
 
 -- no latest start lies before the earliest
 pub asap-alap : (o : Order) (bound : ℕ) (s t : List ℕ) → Earliest o s → Latest o bound t → (i : ℕ) → i < size o → at s i ≤ at t i

@@ -13,7 +13,7 @@ use Rattle.laws.specs.Rows.{at}
 use Rattle.laws.specs.Tests.{two, clash, off, and-true, and-left, and-right}
 use Rattle.laws.specs.Lowest.{None}
 use Rattle.laws.specs.Greatest.{Greatest, greatest}
-use Rattle.laws.specs.Count.{count-le, count-none}
+use Rattle.laws.specs.Count.{count, count-le, count-none}
 use Rattle.laws.specs.Counting.{count-same, count-mono}
 use Rattle.model.specs.Graph.{Graph, order, many, busyTime, typeOf}
 use Rattle.model.specs.Tables.{Keeps, Within}
@@ -74,6 +74,32 @@ peak-one g t k p q a b = omega (arith, a .met, b .met, a .never-more (b .at-step
 
 -- ---- a maximum is met at some operation's start
 
+-- how many of the first m operations are of type k and running at step l
+abbrev pub runningFirst : Graph → List ℕ → ℕ → ℕ → ℕ → ℕ
+runningFirst g t m k l = count (runs g t k l) m
+
+module _ (g : Graph) (t : List ℕ) (m k l : ℕ) where
+  -- those of the first m that run at l run at the last start among them
+  pub at-last-start : (last : Greatest (Runs g t k l) (at t) m) → runningFirst g t m k l ≤ runningFirst g t m k (at t (last .place))
+  at-last-start last =
+      count-mono (runs g t k l) (runs g t k (at t (last .place))) m
+      (λ i b e.
+      let r = runs-true g t k l i e in
+      runs-yes g t k (at t (last .place)) i
+      (record {
+        kind = r .kind;
+        started = last .most i b r;
+        unfinished = omega (arith, r .unfinished, last .holds .started);
+      }))
+
+  -- so what bounds unit use at each start bounds it at every step
+  pub first-starts-enough : (most : ℕ) → ((j : ℕ) → j < m → typeOf g j ≡ k → runningFirst g t m k (at t j) ≤ most) → runningFirst g t m k l ≤ most
+  first-starts-enough most each =
+      ⊎-elim
+      (λ last. omega (arith, at-last-start last, each (last .place) (last .inside) (last .holds .kind)))
+      (λ none. omega (arith, count-none (runs g t k l) m (λ i b. runs-no g t k l i (none i b))))
+      (greatest (Runs g t k l) (at t) m (λ i b. runs-or-not g t k l i))
+
 -- none of the first n operations of type k starts at a step where more than p of that type are running
 pub record AtStarts (g : Graph) (t : List ℕ) (k n p : ℕ) : Type 0 where
   pub bound : (i : ℕ) → i < n → typeOf g i ≡ k → running g t k (at t i) ≤ p
@@ -84,26 +110,9 @@ pub data Met (g : Graph) (t : List ℕ) (k p : ℕ) : Type 0 where
   once : (l : ℕ) → running g t k l ≡ p → Met g t k p
 
 module _ (g : Graph) (t : List ℕ) (k : ℕ) where
-  -- whoever runs at l runs at the last start among those who do
-  runs-last : (l : ℕ) (i : Greatest (Runs g t k l) (at t) (many g)) → running g t k l ≤ running g t k (at t (i .place))
-  runs-last l i =
-      count-mono (runs g t k l) (runs g t k (at t (i .place))) (many g)
-      (λ j b e.
-      let r = runs-true g t k l j e in
-      runs-yes g t k (at t (i .place)) j
-      (record {
-        kind = r .kind;
-        started = i .most j b r;
-        unfinished = omega (arith, r .unfinished, i .holds .started);
-      }))
-
-  -- what bounds unit use at every start bounds it at every step
+  -- the same of all operations
   pub starts-enough : (p : ℕ) → AtStarts g t k (many g) p → (l : ℕ) → running g t k l ≤ p
-  starts-enough p h l =
-      ⊎-elim
-      (λ i. omega (arith, runs-last l i, h .bound (i .place) (i .inside) (i .holds .kind)))
-      (λ n. omega (arith, running-none g t k l n))
-      (greatest (Runs g t k l) (at t) (many g) (λ i b. runs-or-not g t k l i))
+  starts-enough p h l = first-starts-enough g t (many g) k l p (h .bound)
 
   -- such a bound that is 0, or met, is the peak
   pub peak-starts : (p : ℕ) → AtStarts g t k (many g) p → Met g t k p → Peak g t k p

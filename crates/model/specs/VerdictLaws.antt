@@ -5,6 +5,7 @@ use mathlib.Core.List.{List}
 use Prim.Native.Nat.{ℕ, _+_, _≤_, _<_}
 use native.Mathlib.Omega.{arith}
 use lib.ListN.{length}
+use Rattle.laws.specs.Cases.{at-most, none-some, some-one}
 use Rattle.laws.specs.Rows.{at, same-row}
 use Rattle.laws.specs.Lowest.{None, lowest-one}
 use Rattle.model.specs.Limits as limit
@@ -23,20 +24,9 @@ use Rattle.model.specs.declared.Verdict.{Verdict}
 use Rattle.model.specs.declared.Answer.{Answer}
 use Rattle.model.specs.declared.Peaks.{Peaks}
 
--- no refusal is not a refusal, and a refusal is one
-none-some : {r : ℕ × ℕ} → _≡_ {A = Option (ℕ × ℕ)} none (some r) → ⊥
-none-some e = let z : _≡_ {A = ℕ} 0 1 = cc in omega arith
-
-some-one : {r s : ℕ × ℕ} → _≡_ {A = Option (ℕ × ℕ)} (some r) (some s) → r ≡ s
-some-one e = cc
-
 -- numbers of which neither is below the other
 apart : {a b : ℕ} → (a < b → ⊥) → (b < a → ⊥) → a ≡ b
 apart h k = omega arith
-
--- what is not below is at most
-at-most : {a b : ℕ} → (a < b → ⊥) → b ≤ a
-at-most h = omega arith
 
 -- a start from 1 on and a finish within the bound are timely
 pub timely-operation : {g : Graph} {bound : ℕ} {t : List ℕ} {i : ℕ} → 1 ≤ at t i → at t i + delay g i ≤ bound + 1 → fault.Untimely g bound t i → ⊥

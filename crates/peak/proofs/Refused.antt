@@ -2,16 +2,14 @@
 use mathlib.Core.Path.{_≡_}
 use mathlib.Core.Bool.{false}
 use mathlib.Core.Option.{Option, none}
-use mathlib.Core.List.{List}
+use mathlib.Core.List.{List, []}
 use Prim.Native.Nat.{ℕ}
 use native.Mathlib.Omega.{arith}
-use borrow.Author.Tests.{eqb-false, ne-eqb}
 use lib.Dec.{eqb}
 use lib.ListN.{length}
-use Rattle.laws.specs.Cases.{equal}
 use Rattle.model.specs.Graph.{Graph, many, lent}
 use Rattle.model.specs.Refusals.{First, shape}
-use Rattle.model.specs.RefusalLaws.{first-none-append, shape-own, own-not, sound}
+use Rattle.model.specs.RefusalLaws.{first-none-append, shape-test-then, own-equal, sound}
 use Rattle.model.specs.Verdicts.{peakChecks}
 use Rattle.peak.specs.Peaking.{Countable}
 
@@ -19,7 +17,7 @@ use Rattle.peak.specs.Peaking.{Countable}
 pub peak-shape : (g : Graph) (t : List ℕ) (x : Option (ℕ × ℕ)) → First (shape g (eqb (length t) (many g) ≡ false)) x
     → First (shape g (length t ≡ many g → ⊥)) x
 peak-shape g t x h =
-    shape-own g (eqb (length t) (many g) ≡ false) (length t ≡ many g → ⊥) (eqb-false (length t) (many g)) (ne-eqb (length t) (many g)) x h
+    shape-test-then g (length t) (many g) [] x h
 
 -- where none of peak use's says anything, the peaks can be counted
 pub peak-countable : (d ty : List ℕ) (kinds : ℕ) (from to t : List ℕ) → First (peakChecks (lent d ty kinds from to) t) none → Countable d ty t
@@ -29,6 +27,6 @@ peak-countable d ty kinds from to t h =
     let s = sound g _ (front .0) in
     record {
       even-types = s .even-types;
-      even-starts = equal (λ n. own-not g (length t ≡ many g → ⊥) (front .0) n);
+      even-starts = own-equal g (length t) (many g) (front .0);
       type-in = λ i l. omega (arith, s .type-in i l, s .few-kinds);
     }

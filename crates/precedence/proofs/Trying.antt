@@ -1,15 +1,13 @@
 -- The two outcomes of `place`: all are placed, so that there is no cycle; or the rest is what a cycle reaches, and one is shown.
 use mathlib.Core.Path.{_≡_, refl}
-use mathlib.Core.Option.{Option, none, some}
-use mathlib.Core.List.{List, [], _∷_}
+use mathlib.Core.Option.{none}
+use mathlib.Core.List.{List, []}
 use Prim.Native.Nat.{ℕ}
-use native.Mathlib.Omega.{arith}
-use Rattle.laws.specs.Rows.{at}
 use Rattle.model.specs.Order.{Order, size, Closed}
 use Rattle.model.specs.Placing.{Placing}
-use Rattle.model.specs.Tables.{Earliest}
 use Rattle.model.specs.Refusals.{CycleOf}
 use Rattle.model.specs.RefusalLaws.{first-says, first-silent, first-end}
+use Rattle.model.specs.AnswerLaws.{refused-passes}
 use Rattle.model.specs.FrameLaws.{row-given, row-cycle}
 use Rattle.model.specs.PlacingLaws.{placing-kept, placing-free, placing-done, placing-acyclic}
 use Rattle.model.specs.CycleLaws.{shown-cyclic}
@@ -42,8 +40,5 @@ module _ {o : Order} {s : List ℕ} {placed : ℕ} (c : Closed o) (p : Placing o
     };
     placed = placed;
     placing = p;
-    earliest = λ e. absurd (some-is-none e);
+    earliest = refused-passes (Cycle long);
   }
-    where
-      some-is-none : {r : ℕ × ℕ} → some r ≡ none → ⊥
-      some-is-none e = let z : _≡_ {A = ℕ} 0 1 = cc in absurd (omega arith)

@@ -55,16 +55,11 @@ fn advance_fault(
 ) -> Answer
     ensures { λ r. ⌜ First (advanceFront (lent (now (delays .entry)) (now (types .entry)) kinds (now (from .entry)) (now (to .entry))) (now (units .entry))) (refusalOf r) ⌝ }
 {
-    let shape = graph::graph_fault(delays, types, kinds, from, to, units.len() == kinds);
-    match shape {
+    let matched = units.len() == kinds;
+    let fault = graph::graph_unit_fault(delays, types, kinds, from, to, units, matched);
+    match fault {
         Answer::Refused(why) => Answer::Refused(why),
-        Answer::Done => {
-            let unit = graph::unit_fault(delays, types, kinds, from, to, units);
-            match unit {
-                Answer::Refused(why) => Answer::Refused(why),
-                Answer::Done => precedence::cycle_fault(delays, from, to),
-            }
-        }
+        Answer::Done => precedence::cycle_fault(delays, from, to),
     }
 }
 
@@ -80,11 +75,8 @@ fn list_fault(
 ) -> Answer
     ensures { λ r. ⌜ First (listFront (lent (now (delays .entry)) (now (types .entry)) kinds (now (from .entry)) (now (to .entry))) (now (units .entry)) room) (refusalOf r) ⌝ }
 {
-    let shape = graph::front(delays, types, kinds, from, to, units.len() == kinds, room);
-    match shape {
-        Answer::Refused(why) => Answer::Refused(why),
-        Answer::Done => graph::unit_fault(delays, types, kinds, from, to, units),
-    }
+    let matched = units.len() == kinds;
+    graph::front_unit_fault(delays, types, kinds, from, to, units, matched, room)
 }
 
 // The rule at step 1, 2, 3 and so on, from nothing placed until all are.

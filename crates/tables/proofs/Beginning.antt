@@ -1,22 +1,19 @@
 -- The common beginning of the tables: the checks of its parts, one after another, are the checks of the whole.
-use mathlib.Core.Path.{_≡_, refl, sym, subst, _∙_}
+use mathlib.Core.Path.{_≡_, refl, subst}
 use mathlib.Core.Bool.{true, false, true≢false}
 use mathlib.Core.Option.{Option, none, some}
-use mathlib.Core.List.{List, [], _∷_, _++_}
+use mathlib.Core.List.{List, [], _++_}
 use Prim.Native.Nat.{ℕ, _≤_, _<_}
 use native.Mathlib.Omega.{arith}
 use lib.ListN.{length}
-use Rattle.laws.specs.Cases.{lt-or-le}
 use Rattle.model.specs.Limits as limit
-use Rattle.model.specs.Order.{Order}
 use Rattle.model.specs.Graph.{Graph, order, many, Sound}
-use Rattle.model.specs.Tables.{Earliest, Latency, Within}
-use Rattle.model.specs.TableLaws.{earliest-one, latency-within, within-same}
-use Rattle.model.specs.LatencyLaws.{latency-one}
-use Rattle.model.specs.Refusals.{Rule, First, Late, shape, output, cyclic, large-bound, late-bound, asapChecks, alapChecks}
+use Rattle.model.specs.Tables.{Latency}
+use Rattle.model.specs.TableLaws.{latency-within, not-late}
+use Rattle.model.specs.Refusals.{Rule, First, shape, output, cyclic, large-bound, late-bound, asapChecks, alapChecks}
 use Rattle.model.specs.RefusalLaws.{first-none-append, first-pass, first-hit, first-says, first-silent, first-end, flat-says, flat-silent, shape-own-then, room-enough, sound, closed, Never, never-append, shape-never, output-never}
 use Rattle.model.specs.Answers.{refusalOf, numbered, Answered}
-use Rattle.model.specs.AnswerLaws.{first-told}
+use Rattle.model.specs.AnswerLaws.{first-told, refused-passes}
 use Rattle.model.specs.FrameLaws.{refused-stays, answered-refused, answered-passed, row-is, row-given}
 use Rattle.model.specs.TableAnswers.{large-bound-never, late-bound-never}
 use Rattle.model.specs.declared.Answer.{Answer}
@@ -25,10 +22,6 @@ use Rattle.model.specs.declared.Refusal.{Refusal}
 use Rattle.model.specs.declared.Refusal.the-variants.{BoundTooLarge, BoundTooSmall}
 use Rattle.precedence.specs.Tried.{Tried}
 use Rattle.tables.specs.Begun.{Begun, Bounded}
-
--- an answer that refuses is no pass
-refused-passes : (why : Refusal) {P : Type 0} → refusalOf (Refused why) ≡ none → P
-refused-passes why e = let z : _≡_ {A = ℕ} 0 1 = cc in absurd (omega arith)
 
 -- the tables' first five rules
 abbrev front : Graph → List ℕ → List Rule
@@ -132,20 +125,12 @@ module _ {g : Graph} (bound : ℕ) {before s after : List ℕ} {a : Answer} (h :
           (first-says _ _ 9 0
           (flat-says 9 _ (record { asap = s; latency = l; earliest = told e .earliest refl; ends = ends; below = b }))))
 
-      -- the latency of any earliest starts is that of these
-      none-late : l ≤ bound → Late (order g) bound → ⊥
-      none-late up x =
-          let closed-order = closed g (told e .sound refl) in
-          let same = earliest-one (order g) s (x .asap) (told e .earliest refl) (x .earliest) in
-          let inside = within-same (order g) closed-order s (x .asap) same bound (latency-within (order g) s l bound ends up) in
-          absurd (omega (arith, x .below, x .ends .least bound inside))
-
       pub bounded-done : l ≤ bound → Bounded g bound before Done s after
       bounded-done up = record {
         answered = decided none
             (record {
               first = first-pass (large-bound bound) (late-bound (order g) bound) none (low-enough low)
-                  (first-silent _ _ none (flat-silent 9 _ (none-late up)) first-end);
+                  (first-silent _ _ none (flat-silent 9 _ (not-late (order g) (closed g (told e .sound refl)) s (told e .earliest refl) l bound ends up)) first-end);
               row = row-given (order g) before (λ r. r ≡ before) after kept;
             });
         sound = λ p. told e .sound refl;

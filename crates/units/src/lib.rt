@@ -14,10 +14,10 @@ ghost use Rattle.laws.specs.Cases.{Tells};
 ghost use Rattle.model.specs.Limits as limit;
 ghost use Rattle.model.specs.Order.{ordered, Closed};
 ghost use Rattle.model.specs.Graph.{lent};
-ghost use Rattle.model.specs.Refusals.{First, shape, large-bound};
+ghost use Rattle.model.specs.Refusals.{First, large-bound};
 ghost use Rattle.model.specs.Answers.{refusalOf};
 ghost use Rattle.model.specs.Faults as fault;
-ghost use Rattle.model.specs.Verdicts.{CheckUneven, checkChecks, Checked};
+ghost use Rattle.model.specs.Verdicts.{checkChecks, Checked};
 ghost use Rattle.laws.specs.Search.{LowestOr};
 ghost use Rattle.units.specs.Tally.{Markable, Marked, Reads};
 ghost use Rattle.units.specs.Findings.{Tallyable, Overs, Askable, Settled};
@@ -145,32 +145,6 @@ fn judge(
     over_use(delays, types, units, bound, starts)
 }
 
-// Whether there are as many unit counts as types, and as many starts as operations.
-fn matched(units: usize, kinds: usize, starts: usize, operations: usize) -> bool
-    ensures { λ r. ⌜ Tells r ((units ≡ kinds) × (starts ≡ operations)) ⌝ }
-{
-    if units != kinds {
-        return false;
-    }
-    starts == operations
-}
-
-// Refusals 1 to 4 with the rows that only the checker takes.
-fn shape_fault(
-    delays: &[u8],
-    types: &[u8],
-    kinds: usize,
-    from: &[u16],
-    to: &[u16],
-    units: &[u8],
-    starts: &[u16],
-) -> Answer
-    ensures { λ r. ⌜ First (shape (lent (now (delays .entry)) (now (types .entry)) kinds (now (from .entry)) (now (to .entry))) (CheckUneven (lent (now (delays .entry)) (now (types .entry)) kinds (now (from .entry)) (now (to .entry))) (now (units .entry)) (now (starts .entry)))) (refusalOf r) ⌝ }
-{
-    let even = matched(units.len(), kinds, starts.len(), delays.len());
-    graph::graph_fault(delays, types, kinds, from, to, even)
-}
-
 // Refusal 8: the bound is past the last step.
 fn bound_fault(bound: usize) -> Answer
     ensures { λ r. ⌜ First (large-bound bound) (refusalOf r) ⌝ }
@@ -194,12 +168,9 @@ fn check_fault(
 ) -> Answer
     ensures { λ r. ⌜ First (checkChecks (lent (now (delays .entry)) (now (types .entry)) kinds (now (from .entry)) (now (to .entry))) (now (units .entry)) bound (now (starts .entry))) (refusalOf r) ⌝ }
 {
-    let shape = shape_fault(delays, types, kinds, from, to, units, starts);
-    if let Answer::Refused(why) = shape {
-        return Answer::Refused(why);
-    }
-    let unit = graph::unit_fault(delays, types, kinds, from, to, units);
-    if let Answer::Refused(why) = unit {
+    let even = graph::rows_match(units.len(), kinds, starts.len(), delays.len());
+    let fault = graph::graph_unit_fault(delays, types, kinds, from, to, units, even);
+    if let Answer::Refused(why) = fault {
         return Answer::Refused(why);
     }
     let cycle = precedence::cycle_fault(delays, from, to);

@@ -6,11 +6,11 @@ use Rattle.lister.proofs.Asking.{matched-next}
 use Rattle.lister.proofs.next.Statement.{statement}
 use Rattle.lister.proofs.next.Tie as tie
 
-even-requires : tie.Need-even-requires
-even-requires c κs = search needs
+rows-match-requires : tie.Need-rows-match-requires
+rows-match-requires c κs = search needs
 
 ask-requires : tie.Need-ask-requires
-ask-requires c κs = matched-next _ _ _ (c .before .even .ensures)
+ask-requires c κs = matched-next _ _ _ (c .before .rows-match .ensures)
 
 same-length : tie.Need-same-length
 same-length c = search needs
@@ -20,4 +20,4 @@ unfolding askedOf
 returns c = c .before .before .ask .ensures
 
 pub next-spec : {M : Type 1} → statement M
-next-spec = tie.close (tie.spec even-requires ask-requires same-length returns)
+next-spec = tie.close (tie.spec rows-match-requires ask-requires same-length returns)
