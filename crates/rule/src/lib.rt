@@ -5,7 +5,7 @@ use model::Scheduled;
 use model::limits::OPERATIONS;
 use model::limits::STEPS;
 ghost use mathlib.Core.Path.{_≡_};
-ghost use Prim.Native.Nat.{_≤_};
+ghost use Prim.Native.Nat.{_+_, _≤_};
 ghost use lib.ListN.{length};
 ghost use Rattle.laws.specs.Cases.{Tells};
 ghost use Rattle.model.specs.Limits as limit;
@@ -13,7 +13,7 @@ ghost use Rattle.model.specs.Graph.{lent};
 ghost use Rattle.model.specs.Refusals.{First};
 ghost use Rattle.model.specs.Answers.{refusalOf};
 ghost use Rattle.model.specs.Progress.{Doable};
-ghost use Rattle.model.specs.Scheduling.{ListAnswer, AdvanceAnswer};
+ghost use Rattle.model.specs.Scheduling.{Moves, ListAnswer, AdvanceAnswer};
 ghost use Rattle.rule.specs.Fronts.{advanceFront, listFront, Full, ListRow};
 ghost use Rattle.rule.specs.One.{Fresh, beside};
 
@@ -90,6 +90,7 @@ fn schedule(
     requires { ⌜ Doable (lent (now delays) (now types) (length (now units)) (now from) (now to)) (now units) ⌝ }
     ensures { λ r. ⌜ ListRow (lent (now (delays .entry)) (now (types .entry)) (length (now (units .entry))) (now (from .entry)) (now (to .entry))) (now (units .entry)) r ⌝ }
 {
+    let links = links::link(to);
     let ranked = step::priority::ranks(delays, from, to);
     let mut starts = [0u16; OPERATIONS];
     let mut step = 1;
@@ -97,9 +98,50 @@ fn schedule(
         if full(&starts, delays.len()) {
             return starts;
         }
-        step::apply(delays, types, from, to, units, &ranked, step, &mut starts);
+        step::apply(
+            delays,
+            types,
+            from,
+            to,
+            units,
+            &links,
+            &ranked,
+            step,
+            &mut starts,
+        );
         step += 1;
     }
+}
+
+// The starts after the rule at one step.
+fn next_starts(
+    delays: &[u8],
+    types: &[u8],
+    from: &[u16],
+    to: &[u16],
+    units: &[u8],
+    step: usize,
+    starts: [u16; OPERATIONS],
+) -> [u16; OPERATIONS]
+    requires { ⌜ Doable (lent (now delays) (now types) (length (now units)) (now from) (now to)) (now units) ⌝ }
+    requires { ⌜ (1 ≤ step) × (step ≤ limit.steps) ⌝ }
+    ensures { λ r. ⌜ Moves (lent (now (delays .entry)) (now (types .entry)) (length (now (units .entry))) (now (from .entry)) (now (to .entry))) (now (units .entry)) starts step r (step + 1) ⌝ }
+{
+    let links = links::link(to);
+    let ranked = step::priority::ranks(delays, from, to);
+    let mut next = starts;
+    step::apply(
+        delays,
+        types,
+        from,
+        to,
+        units,
+        &links,
+        &ranked,
+        step,
+        &mut next,
+    );
+    next
 }
 
 // The list schedule's starts in the first entries of `out`, and their latency.
@@ -176,9 +218,7 @@ impl State {
         if STEPS < step {
             return self.unmoved(Answer::Refused(Refusal::Step));
         }
-        let ranked = step::priority::ranks(delays, from, to);
-        let mut next = self.starts;
-        step::apply(delays, types, from, to, units, &ranked, step, &mut next);
+        let next = next_starts(delays, types, from, to, units, step, starts);
         Advanced {
             answer: Answer::Done,
             state: State {

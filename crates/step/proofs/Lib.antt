@@ -3,3 +3,4 @@ mod Rooms
 mod Ranking
 mod Labelled
 mod Passing
+mod Clearing

@@ -15,26 +15,23 @@ use Rattle.laws.specs.Rows.{at, same-row}
 use Rattle.laws.specs.Count.{bit, bit-le, count, count-le}
 use Rattle.laws.specs.Counting.{sum-change-below, count-same, count-zero}
 use Rattle.model.specs.Limits as limit
-use Rattle.model.specs.Graph.{Graph, Sound, many, edgesOf, typeOf}
+use Rattle.model.specs.Graph.{Graph, Sound, many, typeOf}
 use Rattle.model.specs.Use.{runs}
-use Rattle.model.specs.Rule.{over, holds, candidate, inUse, ahead, candidatesAhead, startsNow, pickStart, stepped}
+use Rattle.model.specs.Rule.{candidate, inUse, ahead, candidatesAhead, startsNow, pickStart, stepped}
 use Rattle.model.specs.RuleLaws.{uses, ahead-linear, starts-is, is-starts, stepped-long, starts-at, stays-at, rest-stays, typed, Front, front-filled, starter, is-starter}
 use Rattle.model.specs.Scheduling.{Moves}
 use Rattle.step.specs.Tally.{Tally}
-use Rattle.step.specs.Turn.{waitsAt, usesAt, takesAt}
+use Rattle.step.specs.Turn.{usesAt, takesAt}
+use Rattle.step.specs.Candidates.{Marked}
 use Rattle.step.specs.Priority.{rankOf, Priority}
 use Rattle.step.specs.RankLaws.{Turn, turn, lower, before, one-rank, rank-inside}
 
--- what holders and in_use tell of the starts t before the pass
-pub record Counted (g : Graph) (t : List ℕ) (l : ℕ) (held used : List ℕ) : Type 0 where
-  pub edges : (i : ℕ) → i < limit.operations → at held i ≡ count (holds g t l i) (edgesOf g)
-  pub units : (k : ℕ) → k < limit.kinds → at used k ≡ inUse g t k l
+-- a mark is there where the test passes
+marked : (b : Bool) → 1 ≤ bit b → b ≡ true
+marked true l = refl
+marked false l = absurd (omega arith)
 
-pub held-counts : (g : Graph) (t : List ℕ) (l : ℕ) (held : List ℕ) → Tally (at (g .to)) (waitsAt (g .delays) (g .from) t l) limit.operations held (edgesOf g)
-    → (i : ℕ) → i < limit.operations → at held i ≡ count (holds g t l i) (edgesOf g)
-unfolding holds over
-held-counts g t l held h i b = h .each i b
-
+-- what in_use tells of the starts t before the pass
 pub used-counts : (g : Graph) (t : List ℕ) (l : ℕ) (used : List ℕ) → Tally (at (g .types)) (usesAt (g .busy) t l) limit.kinds used (many g)
     → (k : ℕ) → k < limit.kinds → at used k ≡ inUse g t k l
 unfolding runs
@@ -106,24 +103,21 @@ module _ (g : Graph) (labels units t : List ℕ) (l : ℕ) where
         ∙ ap (min (at units (typeOf g i) - inUse g t (typeOf g i) l)) ahead-count
 
     -- so it takes a unit exactly when the rule starts it
-    takes-starts : (held used : ℕ) → held ≡ count (holds g t l i) (edgesOf g) → used ≡ inUse g t (typeOf g i) l + count (passed (typeOf g i) p) (many g)
-        → takesAt (at t i) held used (at units (typeOf g i)) ≡ startsNow g labels units t l i
-    unfolding candidate
-    takes-starts held used e u =
+    takes-starts : (mark used : ℕ) → mark ≡ bit (candidate g t l i) → used ≡ inUse g t (typeOf g i) l + count (passed (typeOf g i) p) (many g)
+        → takesAt mark used (at units (typeOf g i)) ≡ startsNow g labels units t l i
+    takes-starts mark used e u =
         same-test _ _
         (λ q.
-        let r = and-right _ _ q in
         is-starts g labels units t l i
         (record {
           inside = h .inside;
-          may = and-true (and-left _ _ q) (subst (λ (n : ℕ). eqb n 0 ≡ true) e (and-left _ _ r));
-          room = omega (arith, taken, ltb-true used (at units (typeOf g i)) (and-right _ _ r));
+          may = marked (candidate g t l i) (omega (arith, e, ltb-true 0 mark (and-left _ _ q)));
+          room = omega (arith, taken, ltb-true used (at units (typeOf g i)) (and-right _ _ q));
         }))
         (λ q.
         let s = starts-is g labels units t l i q in
-        and-true (and-left _ _ (s .may))
-        (and-true (subst (λ (n : ℕ). eqb n 0 ≡ true) (sym e) (and-right _ _ (s .may)))
-        (lt-ltb used (at units (typeOf g i)) (omega (arith, taken, s .room)))))
+        and-true (lt-ltb 0 mark (omega (arith, e, ap bit (s .may))))
+        (lt-ltb used (at units (typeOf g i)) (omega (arith, taken, s .room))))
 
     -- what starts joins its type's count, and no other
     passed-more : (k : ℕ) → count (passed k (p + 1)) (many g) ≡ count (passed k p) (many g) + bit (starter g labels units t l k i)
@@ -149,12 +143,12 @@ module _ (g : Graph) (labels units t : List ℕ) (l : ℕ) where
 
 -- ---- the loop
 -- before turn p
-pub record Passing (g : Graph) (units row t : List ℕ) (l : ℕ) (held used x : List ℕ) (p : ℕ) : Type 0 where
+pub record Passing (g : Graph) (units row t : List ℕ) (l : ℕ) (marks used x : List ℕ) (p : ℕ) : Type 0 where
   pub sound : Sound g
   pub whole : length t ≡ limit.operations
   pub priority : Priority g row
   pub within : p ≤ many g
-  pub edges : (i : ℕ) → i < limit.operations → at held i ≡ count (holds g t l i) (edgesOf g)
+  pub candidates : Marked g t l marks (many g)
   pub long : length x ≡ limit.operations
   pub long-used : length used ≡ limit.kinds
   pub done : (i : ℕ) → i < many g → rankOf (priority .labels) (many g) i < p → at x i ≡ at (stepped g (priority .labels) units t l) i
@@ -162,16 +156,16 @@ pub record Passing (g : Graph) (units row t : List ℕ) (l : ℕ) (held used x :
   pub rest : (i : ℕ) → many g ≤ i → at x i ≡ at t i
   pub counts : (k : ℕ) → k < limit.kinds → at used k ≡ inUse g t k l + count (passed g (priority .labels) units t l k p) (many g)
 
-pub passing-none : {g : Graph} {units row t : List ℕ} {l : ℕ} {held used : List ℕ} → Sound g → length t ≡ limit.operations → Priority g row
-    → Tally (at (g .to)) (waitsAt (g .delays) (g .from) t l) limit.operations held (edgesOf g)
-    → Tally (at (g .types)) (usesAt (g .busy) t l) limit.kinds used (many g) → Passing g units row t l held used t 0
+pub passing-none : {g : Graph} {units row t : List ℕ} {l : ℕ} {marks used : List ℕ} → Sound g → length t ≡ limit.operations → Priority g row
+    → Marked g t l marks (many g)
+    → Tally (at (g .types)) (usesAt (g .busy) t l) limit.kinds used (many g) → Passing g units row t l marks used t 0
 unfolding passed
-passing-none {g} {units} {row} {t} {l} {held} {used} s long h a b = record {
+passing-none {g} {units} {row} {t} {l} {marks} {used} s long h a b = record {
   sound = s;
   whole = long;
   priority = h;
   within = omega arith;
-  edges = held-counts g t l held a;
+  candidates = a;
   long = long;
   long-used = b .long;
   done = λ i u r. absurd (omega arith);
@@ -186,7 +180,7 @@ passing-none {g} {units} {row} {t} {l} {held} {used} s long h a b = record {
       );
 }
 
-module _ {g : Graph} {units row t : List ℕ} {l : ℕ} {held used x : List ℕ} {p : ℕ} (h : Passing g units row t l held used x p) where
+module _ {g : Graph} {units row t : List ℕ} {l : ℕ} {marks used x : List ℕ} {p : ℕ} (h : Passing g units row t l marks used x p) where
   -- the operation whose turn it is
   pub turn-of : p < many g → Turn (h .priority .labels) (many g) p (at row p)
   turn-of u = turn (h .priority .labels) (many g) row (h .priority .ranked) p u
@@ -208,7 +202,7 @@ module _ {g : Graph} {units row t : List ℕ} {l : ℕ} {held used x : List ℕ}
       )
 
   pub used-fits : (now : ℕ) → p < many g
-      → now ≡ bit (takesAt (at x (at row p)) (at held (at row p)) (at used (typeOf g (at row p))) (at units (typeOf g (at row p))))
+      → now ≡ bit (takesAt (at marks (at row p)) (at used (typeOf g (at row p))) (at units (typeOf g (at row p))))
       → at used (typeOf g (at row p)) + now ≤ limit.operations + limit.operations + 1
   used-fits now u e =
       let i = at row p in
@@ -216,12 +210,12 @@ module _ {g : Graph} {units row t : List ℕ} {l : ℕ} {held used x : List ℕ}
       omega (
         arith,
         used-room k (kind-room u),
-        bit-le (takesAt (at x i) (at held i) (at used k) (at units k)),
+        bit-le (takesAt (at marks i) (at used k) (at units k)),
         h .sound .few,
       )
 
   -- the turn's mark says whether the rule starts it
-  mark : (now : ℕ) → p < many g → now ≡ bit (takesAt (at x (at row p)) (at held (at row p)) (at used (typeOf g (at row p))) (at units (typeOf g (at row p))))
+  mark : (now : ℕ) → p < many g → now ≡ bit (takesAt (at marks (at row p)) (at used (typeOf g (at row p))) (at units (typeOf g (at row p))))
       → now ≡ bit (startsNow g (h .priority .labels) units t l (at row p))
   mark now u e =
       let labels = h .priority .labels in
@@ -229,8 +223,7 @@ module _ {g : Graph} {units row t : List ℕ} {l : ℕ} {held used x : List ℕ}
       let here = turn-of u in
       let k = typeOf g i in
       e
-      ∙ ap (λ (start : ℕ). bit (takesAt start (at held i) (at used k) (at units k))) (h .todo i (here .inside) (omega (arith, here .is)))
-      ∙ ap bit (takes-starts g labels units t l p i here (at held i) (at used k) (h .edges i (operation-room u)) (h .counts k (kind-room u)))
+      ∙ ap bit (takes-starts g labels units t l p i here (at marks i) (at used k) (h .candidates .each i (here .inside)) (h .counts k (kind-room u)))
 
   -- and its new start is what the step leaves
   settled : (now v : ℕ) → p < many g → now ≡ bit (startsNow g (h .priority .labels) units t l (at row p))
@@ -254,9 +247,9 @@ module _ {g : Graph} {units row t : List ℕ} {l : ℕ} {held used x : List ℕ}
       (two (startsNow g labels units t l i))
 
   pub passing-step : (now v : ℕ) → p < many g
-      → now ≡ bit (takesAt (at x (at row p)) (at held (at row p)) (at used (typeOf g (at row p))) (at units (typeOf g (at row p))))
+      → now ≡ bit (takesAt (at marks (at row p)) (at used (typeOf g (at row p))) (at units (typeOf g (at row p))))
       → v ≡ pickStart (ltb 0 now) l (at x (at row p))
-      → Passing g units row t l held (set used (typeOf g (at row p)) (at used (typeOf g (at row p)) + now)) (set x (at row p) v) (p + 1)
+      → Passing g units row t l marks (set used (typeOf g (at row p)) (at used (typeOf g (at row p)) + now)) (set x (at row p) v) (p + 1)
   passing-step now v u e q =
       let labels = h .priority .labels in
       let n = many g in
@@ -272,7 +265,7 @@ module _ {g : Graph} {units row t : List ℕ} {l : ℕ} {held used x : List ℕ}
         whole = h .whole;
         priority = h .priority;
         within = omega arith;
-        edges = h .edges;
+        candidates = h .candidates;
         long = length-set x i v ∙ h .long;
         long-used = length-set used k (at used k + now) ∙ h .long-used;
         done = λ j b r.

@@ -1,5 +1,6 @@
 pub mod Tally
 pub mod Turn
+pub mod Candidates
 pub mod Priority
 pub mod RankLaws
 pub mod One

@@ -1,33 +1,37 @@
-// The list schedule's rule at one step: who is held back, what is in use, and one pass in the order of priority that starts candidates.
+// The list schedule's rule at one step: who is a candidate, what is in use, and one pass in the order of priority that starts candidates.
 pub mod priority;
 
+use links::LINKS;
 use model::limits::KINDS;
 use model::limits::OPERATIONS;
 ghost use mathlib.Core.Path.{_≡_};
+ghost use mathlib.Core.List.{List};
 ghost use Prim.Native.Nat.{ℕ, _+_, _≤_, _<_};
 ghost use lib.Dec.{ltb};
 ghost use lib.ListN.{length};
-ghost use Rattle.laws.specs.Tests.{neg};
+ghost use Rattle.laws.specs.Cases.{Tells};
 ghost use Rattle.laws.specs.Rows.{at};
 ghost use Rattle.laws.specs.Count.{bit};
 ghost use Rattle.model.specs.Limits as limit;
 ghost use Rattle.model.specs.Order.{Closed, ordered};
 ghost use Rattle.model.specs.Graph.{Sound, lent};
-ghost use Rattle.model.specs.Rule.{pickStart};
+ghost use Rattle.model.specs.Rule.{candidate, pickStart};
+ghost use Rattle.links.specs.Linking.{Linked};
 ghost use Rattle.model.specs.Scheduling.{Moves};
 ghost use Rattle.step.specs.Tally.{Tally};
-ghost use Rattle.step.specs.Turn.{overAt, runsAt, waitsAt, usesAt, takesAt, Typed};
+ghost use Rattle.step.specs.Turn.{runsAt, usesAt, takesAt, Typed};
+ghost use Rattle.step.specs.Candidates.{Walkable, Marked};
 ghost use Rattle.step.specs.Priority.{Priority};
 
-// 1 where a predecessor with this start and delay is not over: it is not placed, or its last step, t + d less 1, does not lie before this one.
-fn waits(start: u16, delay: u8, step: usize) -> usize
-    ensures { λ r. ⌜ r ≡ bit (neg (overAt start delay step)) ⌝ }
+// Whether an operation with this start and delay is over: it is placed, and its last step, t + d less 1, lies before this one.
+fn over(start: u16, delay: u8, step: usize) -> bool
+    ensures { λ r. ⌜ Tells r ((1 ≤ start) × (start + delay ≤ step)) ⌝ }
 {
     if start == 0 {
-        return 1;
+        return false;
     }
     let last = start as usize + delay as usize - 1;
-    if last < step { 0 } else { 1 }
+    last < step
 }
 
 // 1 where an operation with this start and busy time is placed and running.
@@ -47,24 +51,53 @@ fn running(start: u16, busy: u8, step: usize) -> usize
     0
 }
 
-// How many edges hold each operation back: one pass over the edges.
-fn holders(
+// 1 where i is a candidate: it is not placed, and every edge that enters it comes from an operation that is over. The links lead through these edges.
+fn is_candidate(
     delays: &[u8],
     from: &[u16],
     to: &[u16],
+    links: &[u16; LINKS],
+    starts: &[u16; OPERATIONS],
+    step: usize,
+    i: usize,
+) -> usize
+    requires { ⌜ Walkable (ordered (now delays) (now from) (now to)) (now links) ⌝ }
+    requires { ⌜ i < length (now delays) ⌝ }
+    ensures { λ r. ⌜ ((types : List ℕ) (kinds : ℕ) → r ≡ bit (candidate (lent (now (delays .entry)) types kinds (now (from .entry)) (now (to .entry))) (now (starts .entry)) step i)) ⌝ }
+{
+    if starts[i] != 0 {
+        return 0;
+    }
+    let mut edge = links[i] as usize;
+    while edge != 0 {
+        let e = edge - 1;
+        let source = from[e] as usize;
+        if over(starts[source], delays[source], step) {
+            edge = links[OPERATIONS + e] as usize;
+        } else {
+            return 0;
+        }
+    }
+    1
+}
+
+// A mark for each operation that is a candidate.
+fn candidates(
+    delays: &[u8],
+    from: &[u16],
+    to: &[u16],
+    links: &[u16; LINKS],
     starts: &[u16; OPERATIONS],
     step: usize,
 ) -> [usize; OPERATIONS]
-    requires { ⌜ Closed (ordered (now delays) (now from) (now to)) ⌝ }
-    ensures { λ r. ⌜ Tally (at (now (to .entry))) (waitsAt (now (delays .entry)) (now (from .entry)) (now (starts .entry)) step) limit.operations r (length (now (from .entry))) ⌝ }
+    requires { ⌜ Walkable (ordered (now delays) (now from) (now to)) (now links) ⌝ }
+    ensures { λ r. ⌜ ((types : List ℕ) (kinds : ℕ) → Marked (lent (now (delays .entry)) types kinds (now (from .entry)) (now (to .entry))) (now (starts .entry)) step r (length (now (delays .entry)))) ⌝ }
 {
     let mut row = [0usize; OPERATIONS];
-    let mut e = 0;
-    while e < from.len() {
-        let source = from[e] as usize;
-        let target = to[e] as usize;
-        row[target] += waits(starts[source], delays[source], step);
-        e += 1;
+    let mut i = 0;
+    while i < delays.len() {
+        row[i] = is_candidate(delays, from, to, links, starts, step, i);
+        i += 1;
     }
     row
 }
@@ -84,14 +117,11 @@ fn in_use(busy: &[u8], types: &[u8], starts: &[u16; OPERATIONS], step: usize) ->
     row
 }
 
-// 1 where an operation is a candidate and its type has a unit left.
-fn takes(start: u16, held: usize, used: usize, units: u8) -> usize
-    ensures { λ r. ⌜ r ≡ bit (takesAt start held used units) ⌝ }
+// 1 where an operation is marked as a candidate and its type has a unit left.
+fn takes(mark: usize, used: usize, units: u8) -> usize
+    ensures { λ r. ⌜ r ≡ bit (takesAt mark used units) ⌝ }
 {
-    if start != 0 {
-        return 0;
-    }
-    if held != 0 {
+    if mark == 0 {
         return 0;
     }
     if used < units as usize { 1 } else { 0 }
@@ -115,23 +145,25 @@ pub fn apply(
     from: &[u16],
     to: &[u16],
     units: &[u8],
+    links: &[u16; LINKS],
     ranked: &[u16; OPERATIONS],
     step: usize,
     starts: &mut [u16; OPERATIONS],
 )
     requires { ⌜ Sound (lent (now delays) (now types) (length (now units)) (now from) (now to)) ⌝ }
+    requires { ⌜ Linked (now to) (now links) ⌝ }
     requires { ⌜ Priority (lent (now delays) (now types) (length (now units)) (now from) (now to)) (now ranked) ⌝ }
     requires { ⌜ (1 ≤ step) × (step ≤ limit.steps) ⌝ }
     requires { ⌜ length (now starts) ≡ limit.operations ⌝ }
     ensures { λ r. ⌜ Moves (lent (now (delays .entry)) (now (types .entry)) (length (now (units .entry))) (now (from .entry)) (now (to .entry))) (now (units .entry)) (now (starts .entry)) step (now (starts .exit)) (step + 1) ⌝ }
 {
-    let held = holders(delays, from, to, starts, step);
+    let marks = candidates(delays, from, to, links, starts, step);
     let mut used = in_use(delays, types, starts, step);
     let mut p = 0;
     while p < types.len() {
         let i = ranked[p] as usize;
         let kind = types[i] as usize;
-        let now = takes(starts[i], held[i], used[kind], units[kind]);
+        let now = takes(marks[i], used[kind], units[kind]);
         used[kind] += now;
         starts[i] = chosen(now, step, starts[i]);
         p += 1;

@@ -3,6 +3,7 @@ use Prim.Native.Nat.{_-_}
 use native.Mathlib.Omega.{arith}
 use lib.ListN.{length}
 use Rattle.model.specs.Order.{ordered}
+use Rattle.links.specs.Walking.{targets}
 use Rattle.earliest.proofs.Rounds.{Rounds, rounds-none, rounds-step, rounds-few, rounds-stuck, rounds-full}
 use Rattle.earliest.proofs.earliest.Statement.{statement}
 use Rattle.earliest.proofs.earliest.Tie as tie
@@ -14,12 +15,7 @@ abbrev μ-loop : tie.MeasureT-loop
 μ-loop weights from to starts₀ links up₀ total₀ starts up total = length weights - total
 
 link-requires : tie.Need-link-requires Inv-loop μ-loop
-link-requires c κs =
-    let start = c .before .before .before .before in
-    record {
-      few = omega (arith, start .pre .few-edges, start .pre .even);
-      inside = λ e l. omega (arith, start .pre .target-in e (omega (arith, start .pre .even)), start .pre .few);
-    }
+link-requires c κs = targets (c .before .before .before .before .pre)
 
 rises-requires : tie.Need-rises-requires Inv-loop μ-loop
 rises-requires c κs = c .before .before .before .before .before .pre .even

@@ -12,19 +12,21 @@ use Rattle.step.proofs.apply.Statement.{statement}
 use Rattle.step.proofs.apply.Tie as tie
 
 abbrev Inv-loop : tie.InvT-loop
-Inv-loop delays types from to units ranked step starts₀ held used₀ p₀ starts used p = Passing (lent delays types (length units) from to) units ranked starts₀ step held used starts p
+Inv-loop delays types from to units links ranked step starts₀ marks used₀ p₀ starts used p = Passing (lent delays types (length units) from to) units ranked starts₀ step marks used starts p
 
 abbrev μ-loop : tie.MeasureT-loop
-μ-loop delays types from to units ranked step starts₀ held used₀ p₀ starts used p = length types - p
+μ-loop delays types from to units links ranked step starts₀ marks used₀ p₀ starts used p = length types - p
 
-holders-requires : tie.Need-holders-requires Inv-loop μ-loop
-holders-requires c κs = closed _ (c .before .before .before .before .before .before .pre .0)
+candidates-requires : tie.Need-candidates-requires Inv-loop μ-loop
+candidates-requires c κs = record { closed = closed _ (c .before .before .before .before .before .before .pre .0); linked = c .before .before .before .before .before .before .pre .1 .0 }
 
 in-use-requires : tie.Need-in-use-requires Inv-loop μ-loop
 in-use-requires c κs = typed-rows (c .before .before .before .before .before .before .before .before .pre .0)
 
 loop-holds : tie.Need-loop-holds Inv-loop μ-loop
-loop-holds c = passing-none (c .before .before .before .before .before .before .before .before .before .pre .0) (c .before .before .before .before .before .before .before .before .before .pre .1 .1 .1) (c .before .before .before .before .before .before .before .before .before .pre .1 .0) (c .before .before .holders .ensures) (c .in-use .ensures)
+loop-holds c =
+    let pre = c .before .before .before .before .before .before .before .before .before .pre in
+    passing-none (pre .0) (pre .1 .1 .1 .1) (pre .1 .1 .0) (c .before .before .candidates .ensures _ _) (c .in-use .ensures)
 
 mul-i : tie.Need-mul-i Inv-loop μ-loop
 mul-i c = omega (arith, c .before .before .before .before .before .before .before .before .before .before .before .pre .0 .even-types, c .before .before .before .before .before .before .before .before .before .before .before .pre .0 .few)
@@ -50,34 +52,24 @@ mul-takes c =
     let h = c .before .before .before .loop .inv in
     omega (arith, operation-room h (omega (arith, h .sound .even-types)))
 
-element-copy-out-takes : tie.Need-element-copy-out-takes Inv-loop μ-loop
-element-copy-out-takes c =
+array-read-takes : tie.Need-array-read-takes Inv-loop μ-loop
+array-read-takes c =
     let h = c .before .before .before .loop .inv in
     omega (arith, operation-room h (omega (arith, h .sound .even-types)))
 
 mul-takes-2 : tie.Need-mul-takes-2 Inv-loop μ-loop
 mul-takes-2 c =
-    let h = c .before .before .before .before .loop .inv in
-    omega (arith, operation-room h (omega (arith, h .sound .even-types)))
-
-array-read-takes : tie.Need-array-read-takes Inv-loop μ-loop
-array-read-takes c =
-    let h = c .before .before .before .before .loop .inv in
-    omega (arith, operation-room h (omega (arith, h .sound .even-types)))
-
-mul-takes-3 : tie.Need-mul-takes-3 Inv-loop μ-loop
-mul-takes-3 c =
-    let h = c .before .before .before .before .loop .inv in
+    let h = c .before .before .before .loop .inv in
     omega (arith, kind-room h (omega (arith, h .sound .even-types)))
 
 array-read-takes-2 : tie.Need-array-read-takes-2 Inv-loop μ-loop
 array-read-takes-2 c =
-    let h = c .before .before .before .before .loop .inv in
+    let h = c .before .before .before .loop .inv in
     omega (arith, kind-room h (omega (arith, h .sound .even-types)))
 
 shared-slice-read-takes : tie.Need-shared-slice-read-takes Inv-loop μ-loop
 shared-slice-read-takes c =
-    let h = c .before .before .before .before .before .loop .inv in
+    let h = c .before .before .before .before .loop .inv in
     h .sound .type-in _ (turn-of h (omega (arith, h .sound .even-types)) .inside)
 
 takes-requires : tie.Need-takes-requires Inv-loop μ-loop
@@ -85,32 +77,32 @@ takes-requires c κs = search needs
 
 mul-used : tie.Need-mul-used Inv-loop μ-loop
 mul-used c =
-    let h = c .before .before .before .before .before .before .loop .inv in
+    let h = c .before .before .before .before .before .loop .inv in
     omega (arith, kind-room h (omega (arith, h .sound .even-types)))
 
 array-read-used : tie.Need-array-read-used Inv-loop μ-loop
 array-read-used c =
-    let h = c .before .before .before .before .before .before .loop .inv in
+    let h = c .before .before .before .before .before .loop .inv in
     omega (arith, kind-room h (omega (arith, h .sound .even-types)))
 
 add-used : tie.Need-add-used Inv-loop μ-loop
 add-used c =
-    let h = c .before .before .before .before .before .before .loop .inv in
+    let h = c .before .before .before .before .before .loop .inv in
     omega (arith, used-fits h _ (omega (arith, h .sound .even-types)) (c .takes .ensures))
 
 array-write-used : tie.Need-array-write-used Inv-loop μ-loop
 array-write-used c =
-    let h = c .before .before .before .before .before .before .loop .inv in
+    let h = c .before .before .before .before .before .loop .inv in
     omega (arith, kind-room h (omega (arith, h .sound .even-types)))
 
 mul-chosen : tie.Need-mul-chosen Inv-loop μ-loop
 mul-chosen c =
-    let h = c .before .before .before .before .before .before .loop .inv in
+    let h = c .before .before .before .before .before .loop .inv in
     omega (arith, operation-room h (omega (arith, h .sound .even-types)))
 
 element-copy-out-chosen : tie.Need-element-copy-out-chosen Inv-loop μ-loop
 element-copy-out-chosen c =
-    let h = c .before .before .before .before .before .before .loop .inv in
+    let h = c .before .before .before .before .before .loop .inv in
     omega (arith, operation-room h (omega (arith, h .sound .even-types)))
 
 chosen-requires : tie.Need-chosen-requires Inv-loop μ-loop
@@ -118,12 +110,12 @@ chosen-requires c κs = search needs
 
 mul-starts : tie.Need-mul-starts Inv-loop μ-loop
 mul-starts c =
-    let h = c .before .before .before .before .before .before .before .before .loop .inv in
+    let h = c .before .before .before .before .before .before .before .loop .inv in
     omega (arith, operation-room h (omega (arith, h .sound .even-types)))
 
 element-write-starts : tie.Need-element-write-starts Inv-loop μ-loop
 element-write-starts c =
-    let h = c .before .before .before .before .before .before .before .before .loop .inv in
+    let h = c .before .before .before .before .before .before .before .loop .inv in
     omega (arith, operation-room h (omega (arith, h .sound .even-types)))
 
 add-p : tie.Need-add-p Inv-loop μ-loop
@@ -134,7 +126,7 @@ loop-less c = search needs
 
 loop-again : tie.Need-loop-again Inv-loop μ-loop
 loop-again c =
-    let h = c .before .before .before .before .before .before .before .before .loop .inv in
+    let h = c .before .before .before .before .before .before .before .loop .inv in
     passing-step h _ _ (omega (arith, h .sound .even-types)) (c .before .before .takes .ensures) (c .chosen .ensures)
 
 returns : tie.Need-returns Inv-loop μ-loop
@@ -148,7 +140,7 @@ apply-spec =
     (tie.spec
     Inv-loop
     μ-loop
-    holders-requires
+    candidates-requires
     in-use-requires
     loop-holds
     mul-i
@@ -157,10 +149,8 @@ apply-spec =
     shared-slice-read-kind
     cast-kind
     mul-takes
-    element-copy-out-takes
-    mul-takes-2
     array-read-takes
-    mul-takes-3
+    mul-takes-2
     array-read-takes-2
     shared-slice-read-takes
     takes-requires

@@ -2,10 +2,7 @@
 use mathlib.Core.Logic.{inl, inr}
 use native.Mathlib.Omega.{arith}
 use borrow.Author.Needs.{needs}
-use lib.ListN.{length}
 use Rattle.model.specs.AnswerLaws.{first-told}
-use Rattle.model.specs.RefusalLaws.{closed}
-use Rattle.rule.proofs.Going.{acyclic}
 use Rattle.rule.proofs.Answering.{unmoved, moves-given, advance-can, advance-even, advance-refused, advance-whole, advance-outside, advance-moves}
 use Rattle.rule.proofs.State.advance.Statement.{statement}
 use Rattle.rule.proofs.State.advance.Tie as tie
@@ -55,29 +52,20 @@ returns-4 c =
     let h = first-told _ (c .before .before .before .before .before .before .before .enum-told .given .1) (c .before .before .before .before .before .before .before .before .before .advance-fault .ensures) in
     unmoved (c .unmoved4 .ensures) (advance-outside _ _ _ _ h (c .before .before .before .before .full .ensures .none (c .before .before .before .if1 .left)) (inr (c .before .if3 .taken)))
 
-ranks-requires : tie.Need-ranks-requires
-ranks-requires c κs =
+next-starts-requires : tie.Need-next-starts-requires
+next-starts-requires c κs =
     let a = c .before .before .before .before .before .before .before .before .before .before .before .before .before .before .args in
     let h = first-told _ (c .before .before .before .before .before .before .enum-told .given .1) (c .before .before .before .before .before .before .before .before .advance-fault .ensures) in
-    let can = advance-can (a .delays .now) (a .types .now) (a .kinds) (a .from .now) (a .to .now) (a .units .now) h in
-    (closed _ (can .sound), acyclic can)
+    (advance-can (a .delays .now) (a .types .now) (a .kinds) (a .from .now) (a .to .now) (a .units .now) h, (omega arith, omega arith))
 
-apply-requires : tie.Need-apply-requires
-apply-requires c κs = (
-  let a = c .before .before .before .before .before .before .before .before .before .before .before .before .before .before .before .before .before .before .args in
-      let h = first-told _ (c .before .before .before .before .before .before .before .before .before .before .enum-told .given .1) (c .before .before .before .before .before .before .before .before .before .before .before .before .advance-fault .ensures) in
-      advance-can (a .delays .now) (a .types .now) (a .kinds) (a .from .now) (a .to .now) (a .units .now) h .sound,
-  (c .before .before .before .ranks .ensures (c .before .before .before .before .before .before .before .before .before .before .before .before .before .before .before .before .before .before .args .types .now) (length (c .before .before .before .before .before .before .before .before .before .before .before .before .before .before .before .before .before .before .args .units .now)), ((omega arith, omega arith), search needs)),
-)
-
-add-t17 : tie.Need-add-t17
-add-t17 c = omega arith
+add-t16 : tie.Need-add-t16
+add-t16 c = omega arith
 
 returns-5 : tie.Need-returns-5
 returns-5 c =
-    let a = c .before .before .before .before .before .before .before .before .before .before .before .before .before .before .before .before .before .before .before .args in
-    let h = first-told _ (c .before .before .before .before .before .before .before .before .before .before .before .enum-told .given .1) (c .before .before .before .before .before .before .before .before .before .before .before .before .before .advance-fault .ensures) in
-    advance-moves _ _ _ _ h (c .before .before .before .before .before .before .before .before .full .ensures .none (c .before .before .before .before .before .before .before .if1 .left)) (omega arith) (omega arith) _ (moves-given (a .delays .now) (a .types .now) (a .kinds) (a .from .now) (a .to .now) (a .units .now) (advance-even (a .delays .now) (a .types .now) (a .kinds) (a .from .now) (a .to .now) (a .units .now) h) _ _ _ _ (c .apply .ensures))
+    let a = c .before .before .before .before .before .before .before .before .before .before .before .before .before .before .before .args in
+    let h = first-told _ (c .before .before .before .before .before .before .before .enum-told .given .1) (c .before .before .before .before .before .before .before .before .before .advance-fault .ensures) in
+    advance-moves _ _ _ _ h (c .before .before .before .before .full .ensures .none (c .before .before .before .if1 .left)) (omega arith) (omega arith) _ (moves-given (a .delays .now) (a .types .now) (a .kinds) (a .from .now) (a .to .now) (a .units .now) (advance-even (a .delays .now) (a .types .now) (a .kinds) (a .from .now) (a .to .now) (a .units .now) h) _ _ _ _ (c .next-starts .ensures))
 
 pub advance-spec : {M : Type 1} → statement M
 advance-spec =
@@ -95,7 +83,6 @@ advance-spec =
     returns-3
     unmoved-requires-4
     returns-4
-    ranks-requires
-    apply-requires
-    add-t17
+    next-starts-requires
+    add-t16
     returns-5)

@@ -1,0 +1,78 @@
+-- A walk along the links: from the last edge with an end back to the first. What holds of each edge passed holds of all when the walk ends.
+use mathlib.Core.Path.{_≡_, sym, subst}
+use mathlib.Core.Logic.{⊎-elim}
+use mathlib.Core.List.{List}
+use Prim.Native.Nat.{ℕ, _+_, _-_, _≤_, _<_}
+use native.Mathlib.Omega.{arith}
+use lib.ListN.{length}
+use Rattle.laws.specs.Cases.{same-or-not, lt-or-le}
+use Rattle.laws.specs.Rows.{at}
+use Rattle.model.specs.Limits as limit
+use Rattle.model.specs.Order.{Order, Closed}
+use Rattle.links.specs.Linking.{Ends, ofOperation, ofEdge, LastAt, Linked}
+
+-- P holds of the edges past the link whose end is i, and the link leads to the one to pass next
+pub record Passed (ends : List ℕ) (i : ℕ) (P : ℕ → Type 0) (link : ℕ) : Type 0 where
+  pub within : link ≤ length ends
+  pub is : (k : ℕ) → k + 1 ≡ link → at ends k ≡ i
+  pub each : (k : ℕ) → link ≤ k → k < length ends → at ends k ≡ i → P k
+
+-- what holds of the edges passed may be said in other words
+pub passed-as : {ends : List ℕ} {i : ℕ} {P Q : ℕ → Type 0} {link : ℕ} → ((k : ℕ) → P k → Q k) → Passed ends i P link → Passed ends i Q link
+passed-as f h = record { within = h .within; is = h .is; each = λ k a b q. f k (h .each k a b q) }
+
+-- the targets of a closed order can be linked
+pub targets : {o : Order} → Closed o → Ends (o .to)
+targets c = record {
+  few = omega (arith, c .few-edges, c .even);
+  inside = λ e l. omega (arith, c .target-in e (omega (arith, c .even)), c .few);
+}
+
+-- an operation's link leads to one of the edges
+pub operation-low : {ends links : List ℕ} → Linked ends links → (i : ℕ) → i < limit.operations → ofOperation links i ≤ length ends
+operation-low all i l = all .lasts i l .within
+
+-- the walk begins at the operation's link: no edge past it has that end
+pub passed-none : {ends links : List ℕ} {P : ℕ → Type 0} → Linked ends links → (i : ℕ) → i < limit.operations → Passed ends i P (ofOperation links i)
+passed-none all i l =
+    let h = all .lasts i l in
+    record { within = h .within; is = h .is; each = λ k a b q. absurd (h .none k a b q) }
+
+module _ {ends : List ℕ} {i : ℕ} {P : ℕ → Type 0} {link : ℕ} (h : Passed ends i P link) where
+  -- at the end no edge is left
+  pub passed-end : link ≡ 0 → (k : ℕ) → k < length ends → at ends k ≡ i → P k
+  passed-end z k l q = h .each k (omega arith) l q
+
+  module _ (more : link ≡ 0 → ⊥) where
+    -- the next edge is one of the edges
+    pub passed-inside : link - 1 < length ends
+    passed-inside = omega (arith, h .within)
+
+    -- and its end is i
+    pub passed-at : at ends (link - 1) ≡ i
+    passed-at = h .is (link - 1) (omega arith)
+
+    module _ {links : List ℕ} (all : Linked ends links) where
+      -- its own link is the last below it with the same end
+      behind : LastAt ends i (link - 1) (ofEdge links (link - 1))
+      behind = subst (λ (x : ℕ). LastAt ends x (link - 1) (ofEdge links (link - 1))) passed-at (all .befores (link - 1) passed-inside)
+
+      -- so the walk goes back
+      pub passed-falls : ofEdge links (link - 1) < link
+      passed-falls = omega (arith, behind .within)
+
+      -- the edge is passed: none between it and the next has that end
+      pub passed-step : P (link - 1) → Passed ends i P (ofEdge links (link - 1))
+      passed-step here = record {
+        within = omega (arith, passed-falls, h .within);
+        is = behind .is;
+        each = λ k a b q.
+            ⊎-elim
+            (λ l. absurd (behind .none k a l q))
+            (λ l.
+            ⊎-elim
+            (λ e. subst P (sym e) here)
+            (λ n. h .each k (omega arith) b q)
+            (same-or-not k (link - 1)))
+            (lt-or-le k (link - 1));
+      }
