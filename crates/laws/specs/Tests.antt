@@ -62,6 +62,12 @@ unfolding _and_
 and-right-false true p = p
 and-right-false false p = refl
 
+-- a test that passes leaves the other to decide
+pub and-on : (a : Bool) {b : Bool} → b ≡ true → a and b ≡ a
+unfolding _and_
+and-on true p = p
+and-on false p = refl
+
 pub or-left : {a : Bool} (b : Bool) → a ≡ true → a or b ≡ true
 unfolding _or_
 or-left b p = rw p

@@ -1,19 +1,15 @@
 -- The walk of `is_candidate`: where every predecessor passed is over and the walk ends, the operation is a candidate; where one is not, it is none.
-use mathlib.Core.Path.{_≡_, subst, _∙_}
+use mathlib.Core.Path.{_≡_}
 use mathlib.Core.List.{List}
 use Prim.Native.Nat.{ℕ, _+_, _≤_, _<_}
 use native.Mathlib.Omega.{arith}
-use borrow.Author.Count.{below-more}
-use lib.ListN.{length, set, length-set, replicate, length-replicate}
-use lib.Seq.{getD-set-same, getD-set-other}
+use lib.ListN.{length}
 use Rattle.laws.specs.Tests.{off}
 use Rattle.laws.specs.Rows.{at}
 use Rattle.laws.specs.Count.{bit}
-use Rattle.model.specs.Limits as limit
 use Rattle.model.specs.Graph.{Graph, edgesOf}
 use Rattle.model.specs.Rule.{candidate}
 use Rattle.model.specs.RuleLaws.{candidate-is, is-candidate}
-use Rattle.step.specs.Candidates.{Marked}
 use Rattle.links.specs.Walking.{Passed, passed-end}
 
 -- the edge leaves an operation that is over
@@ -46,22 +42,3 @@ module _ (g : Graph) (t : List ℕ) (l i : ℕ) where
             record { placed = c .placed; ended = c .ended };
       }) in
       rw yes
-
--- ---- the loop of `candidates`
-module _ {g : Graph} {t : List ℕ} {l : ℕ} where
-  -- none is marked
-  pub marked-none : Marked g t l (replicate limit.operations 0) 0
-  marked-none = record { long = length-replicate {A = ℕ} limit.operations 0; each = λ i b. absurd (omega arith) }
-
-  -- one more is
-  pub marked-step : {row : List ℕ} {i r : ℕ} → Marked g t l row i → i < limit.operations → r ≡ bit (candidate g t l i) → Marked g t l (set row i r) (i + 1)
-  marked-step {row} {i} {r} h b e = record {
-    long = length-set row i r ∙ h .long;
-    each = below-more (λ (k : ℕ). at (set row i r) k ≡ bit (candidate g t l k)) i
-        (λ k m. getD-set-other row i k r 0 (λ q. absurd (omega arith)) ∙ h .each k m)
-        (getD-set-same row i r 0 (omega (arith, h .long)) ∙ e);
-  }
-
-  -- all are
-  pub marked-end : {row : List ℕ} {i n : ℕ} → Marked g t l row i → i ≡ n → Marked g t l row n
-  marked-end {row} h e = subst (Marked g t l row) e h

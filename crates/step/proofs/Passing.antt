@@ -1,7 +1,7 @@
 -- The pass in the order of priority: at its turn a candidate finds a unit left exactly when the rule starts it, by counting those that started before it.
 use mathlib.Core.Path.{_≡_, refl, sym, ap, subst, _∙_}
-use mathlib.Core.Logic.{⊎-elim}
-use mathlib.Core.Bool.{Bool, true, false}
+use mathlib.Core.Logic.{_⊎_, inl, inr, ⊎-elim}
+use mathlib.Core.Bool.{Bool, false}
 use mathlib.Core.List.{List}
 use Prim.Native.Nat.{ℕ, _+_, _-_, _≤_, _<_, min}
 use native.Mathlib.Omega.{arith}
@@ -15,21 +15,17 @@ use Rattle.laws.specs.Rows.{at, same-row}
 use Rattle.laws.specs.Count.{bit, bit-le, count, count-le}
 use Rattle.laws.specs.Counting.{sum-change-below, count-same, count-zero}
 use Rattle.model.specs.Limits as limit
-use Rattle.model.specs.Graph.{Graph, Sound, many, typeOf}
+use Rattle.model.specs.Order.{source}
+use Rattle.model.specs.Graph.{Graph, Sound, order, many, typeOf}
 use Rattle.model.specs.Use.{runs}
 use Rattle.model.specs.Rule.{candidate, inUse, ahead, candidatesAhead, startsNow, pickStart, stepped}
-use Rattle.model.specs.RuleLaws.{uses, ahead-linear, starts-is, is-starts, stepped-long, starts-at, stays-at, rest-stays, typed, Front, front-filled, starter, is-starter}
+use Rattle.model.specs.RuleLaws.{Over, uses, candidate-is, is-candidate, ahead-linear, starts-is, is-starts, starts-unplaced, stepped-long, starts-at, stays-at, rest-stays, typed, Front, front-filled, starter, is-starter}
 use Rattle.model.specs.Scheduling.{Moves}
 use Rattle.step.specs.Tally.{Tally}
-use Rattle.step.specs.Turn.{usesAt, takesAt}
-use Rattle.step.specs.Candidates.{Marked}
+use Rattle.step.specs.Turn.{usesAt}
+use Rattle.step.specs.Candidates.{takesAt}
 use Rattle.step.specs.Priority.{rankOf, Priority}
 use Rattle.step.specs.RankLaws.{Turn, turn, lower, before, one-rank, rank-inside}
-
--- a mark is there where the test passes
-marked : (b : Bool) → 1 ≤ bit b → b ≡ true
-marked true l = refl
-marked false l = absurd (omega arith)
 
 -- what in_use tells of the starts t before the pass
 pub used-counts : (g : Graph) (t : List ℕ) (l : ℕ) (used : List ℕ) → Tally (at (g .types)) (usesAt (g .busy) t l) limit.kinds used (many g)
@@ -103,21 +99,20 @@ module _ (g : Graph) (labels units t : List ℕ) (l : ℕ) where
         ∙ ap (min (at units (typeOf g i) - inUse g t (typeOf g i) l)) ahead-count
 
     -- so it takes a unit exactly when the rule starts it
-    takes-starts : (mark used : ℕ) → mark ≡ bit (candidate g t l i) → used ≡ inUse g t (typeOf g i) l + count (passed (typeOf g i) p) (many g)
-        → takesAt mark used (at units (typeOf g i)) ≡ startsNow g labels units t l i
-    takes-starts mark used e u =
+    takes-starts : (used : ℕ) → used ≡ inUse g t (typeOf g i) l + count (passed (typeOf g i) p) (many g)
+        → takesAt g t l i used (at units (typeOf g i)) ≡ startsNow g labels units t l i
+    takes-starts used u =
         same-test _ _
         (λ q.
         is-starts g labels units t l i
         (record {
           inside = h .inside;
-          may = marked (candidate g t l i) (omega (arith, e, ltb-true 0 mark (and-left _ _ q)));
+          may = and-left _ _ q;
           room = omega (arith, taken, ltb-true used (at units (typeOf g i)) (and-right _ _ q));
         }))
         (λ q.
         let s = starts-is g labels units t l i q in
-        and-true (lt-ltb 0 mark (omega (arith, e, ap bit (s .may))))
-        (lt-ltb used (at units (typeOf g i)) (omega (arith, taken, s .room))))
+        and-true (s .may) (lt-ltb used (at units (typeOf g i)) (omega (arith, taken, s .room))))
 
     -- what starts joins its type's count, and no other
     passed-more : (k : ℕ) → count (passed k (p + 1)) (many g) ≡ count (passed k p) (many g) + bit (starter g labels units t l k i)
@@ -143,12 +138,12 @@ module _ (g : Graph) (labels units t : List ℕ) (l : ℕ) where
 
 -- ---- the loop
 -- before turn p
-pub record Passing (g : Graph) (units row t : List ℕ) (l : ℕ) (marks used x : List ℕ) (p : ℕ) : Type 0 where
+pub record Passing (g : Graph) (units row t : List ℕ) (l : ℕ) (used x : List ℕ) (p : ℕ) : Type 0 where
   pub sound : Sound g
   pub whole : length t ≡ limit.operations
   pub priority : Priority g row
   pub within : p ≤ many g
-  pub candidates : Marked g t l marks (many g)
+  pub from-one : 1 ≤ l
   pub long : length x ≡ limit.operations
   pub long-used : length used ≡ limit.kinds
   pub done : (i : ℕ) → i < many g → rankOf (priority .labels) (many g) i < p → at x i ≡ at (stepped g (priority .labels) units t l) i
@@ -156,16 +151,15 @@ pub record Passing (g : Graph) (units row t : List ℕ) (l : ℕ) (marks used x 
   pub rest : (i : ℕ) → many g ≤ i → at x i ≡ at t i
   pub counts : (k : ℕ) → k < limit.kinds → at used k ≡ inUse g t k l + count (passed g (priority .labels) units t l k p) (many g)
 
-pub passing-none : {g : Graph} {units row t : List ℕ} {l : ℕ} {marks used : List ℕ} → Sound g → length t ≡ limit.operations → Priority g row
-    → Marked g t l marks (many g)
-    → Tally (at (g .types)) (usesAt (g .busy) t l) limit.kinds used (many g) → Passing g units row t l marks used t 0
+pub passing-none : {g : Graph} {units row t : List ℕ} {l : ℕ} {used : List ℕ} → Sound g → 1 ≤ l → length t ≡ limit.operations → Priority g row
+    → Tally (at (g .types)) (usesAt (g .busy) t l) limit.kinds used (many g) → Passing g units row t l used t 0
 unfolding passed
-passing-none {g} {units} {row} {t} {l} {marks} {used} s long h a b = record {
+passing-none {g} {units} {row} {t} {l} {used} s from long h b = record {
   sound = s;
   whole = long;
   priority = h;
   within = omega arith;
-  candidates = a;
+  from-one = from;
   long = long;
   long-used = b .long;
   done = λ i u r. absurd (omega arith);
@@ -180,7 +174,7 @@ passing-none {g} {units} {row} {t} {l} {marks} {used} s long h a b = record {
       );
 }
 
-module _ {g : Graph} {units row t : List ℕ} {l : ℕ} {marks used x : List ℕ} {p : ℕ} (h : Passing g units row t l marks used x p) where
+module _ {g : Graph} {units row t : List ℕ} {l : ℕ} {used x : List ℕ} {p : ℕ} (h : Passing g units row t l used x p) where
   -- the operation whose turn it is
   pub turn-of : p < many g → Turn (h .priority .labels) (many g) p (at row p)
   turn-of u = turn (h .priority .labels) (many g) row (h .priority .ranked) p u
@@ -202,7 +196,7 @@ module _ {g : Graph} {units row t : List ℕ} {l : ℕ} {marks used x : List ℕ
       )
 
   pub used-fits : (now : ℕ) → p < many g
-      → now ≡ bit (takesAt (at marks (at row p)) (at used (typeOf g (at row p))) (at units (typeOf g (at row p))))
+      → now ≡ bit (takesAt g x l (at row p) (at used (typeOf g (at row p))) (at units (typeOf g (at row p))))
       → at used (typeOf g (at row p)) + now ≤ limit.operations + limit.operations + 1
   used-fits now u e =
       let i = at row p in
@@ -210,12 +204,63 @@ module _ {g : Graph} {units row t : List ℕ} {l : ℕ} {marks used x : List ℕ
       omega (
         arith,
         used-room k (kind-room u),
-        bit-le (takesAt (at marks i) (at used k) (at units k)),
+        bit-le (takesAt g x l i (at used k) (at units k)),
         h .sound .few,
       )
 
+  -- an operation's start so far is the old one, or it started now
+  so-far : (j : ℕ) → j < many g → (at x j ≡ at t j) ⊎ ((at x j ≡ l) × (at t j ≡ 0))
+  so-far j b =
+      let labels = h .priority .labels in
+      ⊎-elim
+      (λ r.
+      let e = h .done j b r in
+      ⊎-elim
+      (λ yes.
+      inr (
+        e ∙ starts-at g labels units t l j (omega (arith, h .sound .few, h .whole)) yes,
+        starts-unplaced g labels units t l j yes,
+      ))
+      (λ no. inl (e ∙ stays-at g labels units t l j no))
+      (two (startsNow g labels units t l j)))
+      (λ r. inl (h .todo j b r))
+      (lt-or-le (rankOf labels (many g) j) p)
+
+  -- what has started now is not over, and neither was it before: so the same operations are over
+  over-same : (j : ℕ) → j < many g → (Over g x l j → Over g t l j) × (Over g t l j → Over g x l j)
+  over-same j b =
+      ⊎-elim
+      (λ e. (
+        λ o. record { placed = omega (arith, o .placed); ended = omega (arith, o .ended) },
+        λ o. record { placed = omega (arith, o .placed); ended = omega (arith, o .ended) },
+      ))
+      (λ e. (
+        λ o. absurd (omega (arith, o .ended, e .0, h .sound .delay-from j b)),
+        λ o. absurd (omega (arith, o .placed, e .1)),
+      ))
+      (so-far j b)
+
+  -- and an operation that has not had its turn is a candidate or not as before
+  candidate-same : (i : ℕ) → i < many g → at x i ≡ at t i → candidate g x l i ≡ candidate g t l i
+  candidate-same i b same =
+      same-test _ _
+      (λ q.
+      let c = candidate-is g x l i q in
+      is-candidate g t l i
+      (record {
+        unplaced = omega (arith, c .unplaced);
+        ready = λ e m n. over-same (source (order g) e) (h .sound .source-in e m) .0 (c .ready e m n);
+      }))
+      (λ q.
+      let c = candidate-is g t l i q in
+      is-candidate g x l i
+      (record {
+        unplaced = omega (arith, c .unplaced);
+        ready = λ e m n. over-same (source (order g) e) (h .sound .source-in e m) .1 (c .ready e m n);
+      }))
+
   -- the turn's mark says whether the rule starts it
-  mark : (now : ℕ) → p < many g → now ≡ bit (takesAt (at marks (at row p)) (at used (typeOf g (at row p))) (at units (typeOf g (at row p))))
+  mark : (now : ℕ) → p < many g → now ≡ bit (takesAt g x l (at row p) (at used (typeOf g (at row p))) (at units (typeOf g (at row p))))
       → now ≡ bit (startsNow g (h .priority .labels) units t l (at row p))
   mark now u e =
       let labels = h .priority .labels in
@@ -223,7 +268,8 @@ module _ {g : Graph} {units row t : List ℕ} {l : ℕ} {marks used x : List ℕ
       let here = turn-of u in
       let k = typeOf g i in
       e
-      ∙ ap bit (takes-starts g labels units t l p i here (at marks i) (at used k) (h .candidates .each i (here .inside)) (h .counts k (kind-room u)))
+      ∙ ap (λ (c : Bool). bit (c and ltb (at used k) (at units k))) (candidate-same i (here .inside) (h .todo i (here .inside) (omega (arith, here .is))))
+      ∙ ap bit (takes-starts g labels units t l p i here (at used k) (h .counts k (kind-room u)))
 
   -- and its new start is what the step leaves
   settled : (now v : ℕ) → p < many g → now ≡ bit (startsNow g (h .priority .labels) units t l (at row p))
@@ -247,9 +293,9 @@ module _ {g : Graph} {units row t : List ℕ} {l : ℕ} {marks used x : List ℕ
       (two (startsNow g labels units t l i))
 
   pub passing-step : (now v : ℕ) → p < many g
-      → now ≡ bit (takesAt (at marks (at row p)) (at used (typeOf g (at row p))) (at units (typeOf g (at row p))))
+      → now ≡ bit (takesAt g x l (at row p) (at used (typeOf g (at row p))) (at units (typeOf g (at row p))))
       → v ≡ pickStart (ltb 0 now) l (at x (at row p))
-      → Passing g units row t l marks (set used (typeOf g (at row p)) (at used (typeOf g (at row p)) + now)) (set x (at row p) v) (p + 1)
+      → Passing g units row t l (set used (typeOf g (at row p)) (at used (typeOf g (at row p)) + now)) (set x (at row p) v) (p + 1)
   passing-step now v u e q =
       let labels = h .priority .labels in
       let n = many g in
@@ -265,7 +311,7 @@ module _ {g : Graph} {units row t : List ℕ} {l : ℕ} {marks used x : List ℕ
         whole = h .whole;
         priority = h .priority;
         within = omega arith;
-        candidates = h .candidates;
+        from-one = h .from-one;
         long = length-set x i v ∙ h .long;
         long-used = length-set used k (at used k + now) ∙ h .long-used;
         done = λ j b r.

@@ -1,11 +1,9 @@
 -- Who is a candidate, found along the links of the edges by their targets.
-use mathlib.Core.Path.{_≡_}
+use mathlib.Core.Bool.{Bool}
 use mathlib.Core.List.{List}
-use Prim.Native.Nat.{ℕ, _<_}
-use lib.ListN.{length}
-use Rattle.laws.specs.Rows.{at}
-use Rattle.laws.specs.Count.{bit}
-use Rattle.model.specs.Limits as limit
+use Prim.Native.Nat.{ℕ}
+use lib.Dec.{ltb}
+use Rattle.laws.specs.Tests.{_and_}
 use Rattle.model.specs.Order.{Order, Closed}
 use Rattle.model.specs.Graph.{Graph}
 use Rattle.model.specs.Rule.{candidate}
@@ -16,7 +14,6 @@ pub record Walkable (o : Order) (links : List ℕ) : Type 0 where
   pub closed : Closed o
   pub linked : Linked (o .to) links
 
--- each of the first n operations is marked where it is a candidate
-pub record Marked (g : Graph) (t : List ℕ) (l : ℕ) (row : List ℕ) (n : ℕ) : Type 0 where
-  pub long : length row ≡ limit.operations
-  pub each : (i : ℕ) → i < n → at row i ≡ bit (candidate g t l i)
+-- i is a candidate, and of its type's units not all are used
+abbrev pub takesAt : Graph → List ℕ → ℕ → ℕ → ℕ → ℕ → Bool
+takesAt g t l i used units = candidate g t l i and ltb used units

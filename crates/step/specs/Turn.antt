@@ -17,10 +17,6 @@ runsAt start busy step = ltb 0 start and (leb start step and ltb step (start + b
 abbrev pub usesAt : List ℕ → List ℕ → ℕ → ℕ → Bool
 usesAt busy starts step i = runsAt (at starts i) (at busy i) step
 
--- marked as a candidate, and a unit is free
-abbrev pub takesAt : ℕ → ℕ → ℕ → Bool
-takesAt mark used units = ltb 0 mark and ltb used units
-
 -- the larger label comes first, then the lower number
 abbrev pub aheadAt : ℕ → ℕ → ℕ → ℕ → Bool
 aheadAt label j other i = ltb other label or (eqb label other and ltb j i)

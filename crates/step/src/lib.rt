@@ -1,4 +1,4 @@
-// The list schedule's rule at one step: who is a candidate, what is in use, and one pass in the order of priority that starts candidates.
+// The list schedule's rule at one step: what is in use, and one pass in the order of priority that starts candidates.
 pub mod priority;
 
 use links::LINKS;
@@ -19,8 +19,8 @@ ghost use Rattle.model.specs.Rule.{candidate, pickStart};
 ghost use Rattle.links.specs.Linking.{Linked};
 ghost use Rattle.model.specs.Scheduling.{Moves};
 ghost use Rattle.step.specs.Tally.{Tally};
-ghost use Rattle.step.specs.Turn.{runsAt, usesAt, takesAt, Typed};
-ghost use Rattle.step.specs.Candidates.{Walkable, Marked};
+ghost use Rattle.step.specs.Turn.{runsAt, usesAt, Typed};
+ghost use Rattle.step.specs.Candidates.{Walkable, takesAt};
 ghost use Rattle.step.specs.Priority.{Priority};
 
 // Whether an operation with this start and delay is over: it is placed, and its last step, t + d less 1, lies before this one.
@@ -81,27 +81,6 @@ fn is_candidate(
     1
 }
 
-// A mark for each operation that is a candidate.
-fn candidates(
-    delays: &[u8],
-    from: &[u16],
-    to: &[u16],
-    links: &[u16; LINKS],
-    starts: &[u16; OPERATIONS],
-    step: usize,
-) -> [usize; OPERATIONS]
-    requires { ⌜ Walkable (ordered (now delays) (now from) (now to)) (now links) ⌝ }
-    ensures { λ r. ⌜ ((types : List ℕ) (kinds : ℕ) → Marked (lent (now (delays .entry)) types kinds (now (from .entry)) (now (to .entry))) (now (starts .entry)) step r (length (now (delays .entry)))) ⌝ }
-{
-    let mut row = [0usize; OPERATIONS];
-    let mut i = 0;
-    while i < delays.len() {
-        row[i] = is_candidate(delays, from, to, links, starts, step, i);
-        i += 1;
-    }
-    row
-}
-
 // How many operations of each type are running: one pass over the operations.
 fn in_use(busy: &[u8], types: &[u8], starts: &[u16; OPERATIONS], step: usize) -> [usize; KINDS]
     requires { ⌜ Typed (now types) (length (now busy)) ⌝ }
@@ -117,14 +96,26 @@ fn in_use(busy: &[u8], types: &[u8], starts: &[u16; OPERATIONS], step: usize) ->
     row
 }
 
-// 1 where an operation is marked as a candidate and its type has a unit left.
-fn takes(mark: usize, used: usize, units: u8) -> usize
-    ensures { λ r. ⌜ r ≡ bit (takesAt mark used units) ⌝ }
+// 1 where i is a candidate and its type, of which `used` are running, has a unit left. Predecessors are asked only where one is.
+fn takes(
+    delays: &[u8],
+    from: &[u16],
+    to: &[u16],
+    links: &[u16; LINKS],
+    starts: &[u16; OPERATIONS],
+    step: usize,
+    i: usize,
+    used: usize,
+    units: u8,
+) -> usize
+    requires { ⌜ Walkable (ordered (now delays) (now from) (now to)) (now links) ⌝ }
+    requires { ⌜ i < length (now delays) ⌝ }
+    ensures { λ r. ⌜ ((types : List ℕ) (kinds : ℕ) → r ≡ bit (takesAt (lent (now (delays .entry)) types kinds (now (from .entry)) (now (to .entry))) (now (starts .entry)) step i used units)) ⌝ }
 {
-    if mark == 0 {
-        return 0;
+    if used < units as usize {
+        return is_candidate(delays, from, to, links, starts, step, i);
     }
-    if used < units as usize { 1 } else { 0 }
+    0
 }
 
 // The step where the operation starts, and its old start where it does not.
@@ -138,7 +129,8 @@ fn chosen(now: usize, step: usize, old: u16) -> u16
     step as u16
 }
 
-// The rule at one step: each operation has its turn in the order of priority, and a candidate starts while its type has a unit left.
+// The rule at one step: each operation has its turn in the order of priority, and a candidate starts while its type has a unit left. What has
+// started in this step is not over in it, so who is a candidate does not change on the way.
 pub fn apply(
     delays: &[u8],
     types: &[u8],
@@ -157,13 +149,22 @@ pub fn apply(
     requires { ⌜ length (now starts) ≡ limit.operations ⌝ }
     ensures { λ r. ⌜ Moves (lent (now (delays .entry)) (now (types .entry)) (length (now (units .entry))) (now (from .entry)) (now (to .entry))) (now (units .entry)) (now (starts .entry)) step (now (starts .exit)) (step + 1) ⌝ }
 {
-    let marks = candidates(delays, from, to, links, starts, step);
     let mut used = in_use(delays, types, starts, step);
     let mut p = 0;
     while p < types.len() {
         let i = ranked[p] as usize;
         let kind = types[i] as usize;
-        let now = takes(marks[i], used[kind], units[kind]);
+        let now = takes(
+            delays,
+            from,
+            to,
+            links,
+            starts,
+            step,
+            i,
+            used[kind],
+            units[kind],
+        );
         used[kind] += now;
         starts[i] = chosen(now, step, starts[i]);
         p += 1;

@@ -12,27 +12,24 @@ use Rattle.step.proofs.apply.Statement.{statement}
 use Rattle.step.proofs.apply.Tie as tie
 
 abbrev Inv-loop : tie.InvT-loop
-Inv-loop delays types from to units links ranked step starts₀ marks used₀ p₀ starts used p = Passing (lent delays types (length units) from to) units ranked starts₀ step marks used starts p
+Inv-loop delays types from to units links ranked step starts₀ used₀ p₀ starts used p = Passing (lent delays types (length units) from to) units ranked starts₀ step used starts p
 
 abbrev μ-loop : tie.MeasureT-loop
-μ-loop delays types from to units links ranked step starts₀ marks used₀ p₀ starts used p = length types - p
-
-candidates-requires : tie.Need-candidates-requires Inv-loop μ-loop
-candidates-requires c κs = record { closed = closed _ (c .before .before .before .before .before .before .pre .0); linked = c .before .before .before .before .before .before .pre .1 .0 }
+μ-loop delays types from to units links ranked step starts₀ used₀ p₀ starts used p = length types - p
 
 in-use-requires : tie.Need-in-use-requires Inv-loop μ-loop
-in-use-requires c κs = typed-rows (c .before .before .before .before .before .before .before .before .pre .0)
+in-use-requires c κs = typed-rows (c .before .before .before .before .before .before .pre .0)
 
 loop-holds : tie.Need-loop-holds Inv-loop μ-loop
 loop-holds c =
-    let pre = c .before .before .before .before .before .before .before .before .before .pre in
-    passing-none (pre .0) (pre .1 .1 .1 .1) (pre .1 .1 .0) (c .before .before .candidates .ensures _ _) (c .in-use .ensures)
+    let pre = c .before .before .before .before .before .before .before .pre in
+    passing-none (pre .0) (pre .1 .1 .1 .0 .0) (pre .1 .1 .1 .1) (pre .1 .1 .0) (c .in-use .ensures)
 
 mul-i : tie.Need-mul-i Inv-loop μ-loop
-mul-i c = omega (arith, c .before .before .before .before .before .before .before .before .before .before .before .pre .0 .even-types, c .before .before .before .before .before .before .before .before .before .before .before .pre .0 .few)
+mul-i c = omega (arith, c .before .before .before .before .before .before .before .before .before .pre .0 .even-types, c .before .before .before .before .before .before .before .before .before .pre .0 .few)
 
 element-copy-out-i : tie.Need-element-copy-out-i Inv-loop μ-loop
-element-copy-out-i c = omega (arith, c .before .before .before .before .before .before .before .before .before .before .before .pre .0 .even-types, c .before .before .before .before .before .before .before .before .before .before .before .pre .0 .few)
+element-copy-out-i c = omega (arith, c .before .before .before .before .before .before .before .before .before .pre .0 .even-types, c .before .before .before .before .before .before .before .before .before .pre .0 .few)
 
 cast-i : tie.Need-cast-i Inv-loop μ-loop
 cast-i c =
@@ -45,64 +42,57 @@ shared-slice-read-kind c =
     omega (arith, h .sound .even-types, turn-of h (omega (arith, h .sound .even-types)) .inside)
 
 cast-kind : tie.Need-cast-kind Inv-loop μ-loop
-cast-kind c = omega (arith, c .shared-slice-known6 .given (at (c .before .before .before .before .before .before .before .before .before .before .before .before .before .args .ranked .now) (c .before .before .before .loop .p)))
+cast-kind c = omega (arith, c .shared-slice-known6 .given (at (c .before .before .before .before .before .before .before .before .before .before .before .args .ranked .now) (c .before .before .before .loop .p)))
 
 mul-takes : tie.Need-mul-takes Inv-loop μ-loop
 mul-takes c =
-    let h = c .before .before .before .loop .inv in
-    omega (arith, operation-room h (omega (arith, h .sound .even-types)))
+    let h = c .before .before .before .before .loop .inv in
+    omega (arith, kind-room h (omega (arith, h .sound .even-types)))
 
 array-read-takes : tie.Need-array-read-takes Inv-loop μ-loop
 array-read-takes c =
-    let h = c .before .before .before .loop .inv in
-    omega (arith, operation-room h (omega (arith, h .sound .even-types)))
-
-mul-takes-2 : tie.Need-mul-takes-2 Inv-loop μ-loop
-mul-takes-2 c =
-    let h = c .before .before .before .loop .inv in
-    omega (arith, kind-room h (omega (arith, h .sound .even-types)))
-
-array-read-takes-2 : tie.Need-array-read-takes-2 Inv-loop μ-loop
-array-read-takes-2 c =
-    let h = c .before .before .before .loop .inv in
+    let h = c .before .before .before .before .loop .inv in
     omega (arith, kind-room h (omega (arith, h .sound .even-types)))
 
 shared-slice-read-takes : tie.Need-shared-slice-read-takes Inv-loop μ-loop
 shared-slice-read-takes c =
-    let h = c .before .before .before .before .loop .inv in
+    let h = c .before .before .before .before .before .loop .inv in
     h .sound .type-in _ (turn-of h (omega (arith, h .sound .even-types)) .inside)
 
 takes-requires : tie.Need-takes-requires Inv-loop μ-loop
-takes-requires c κs = search needs
+takes-requires c κs =
+    let h = c .before .before .before .before .before .loop .inv in
+    let pre = c .before .before .before .before .before .before .before .before .before .before .before .before .before .pre in
+    (record { closed = closed _ (pre .0); linked = pre .1 .0 }, turn-of h (omega (arith, h .sound .even-types)) .inside)
 
 mul-used : tie.Need-mul-used Inv-loop μ-loop
 mul-used c =
-    let h = c .before .before .before .before .before .loop .inv in
+    let h = c .before .before .before .before .before .before .loop .inv in
     omega (arith, kind-room h (omega (arith, h .sound .even-types)))
 
 array-read-used : tie.Need-array-read-used Inv-loop μ-loop
 array-read-used c =
-    let h = c .before .before .before .before .before .loop .inv in
+    let h = c .before .before .before .before .before .before .loop .inv in
     omega (arith, kind-room h (omega (arith, h .sound .even-types)))
 
 add-used : tie.Need-add-used Inv-loop μ-loop
 add-used c =
-    let h = c .before .before .before .before .before .loop .inv in
-    omega (arith, used-fits h _ (omega (arith, h .sound .even-types)) (c .takes .ensures))
+    let h = c .before .before .before .before .before .before .loop .inv in
+    omega (arith, used-fits h _ (omega (arith, h .sound .even-types)) (c .takes .ensures _ _))
 
 array-write-used : tie.Need-array-write-used Inv-loop μ-loop
 array-write-used c =
-    let h = c .before .before .before .before .before .loop .inv in
+    let h = c .before .before .before .before .before .before .loop .inv in
     omega (arith, kind-room h (omega (arith, h .sound .even-types)))
 
 mul-chosen : tie.Need-mul-chosen Inv-loop μ-loop
 mul-chosen c =
-    let h = c .before .before .before .before .before .loop .inv in
+    let h = c .before .before .before .before .before .before .loop .inv in
     omega (arith, operation-room h (omega (arith, h .sound .even-types)))
 
 element-copy-out-chosen : tie.Need-element-copy-out-chosen Inv-loop μ-loop
 element-copy-out-chosen c =
-    let h = c .before .before .before .before .before .loop .inv in
+    let h = c .before .before .before .before .before .before .loop .inv in
     omega (arith, operation-room h (omega (arith, h .sound .even-types)))
 
 chosen-requires : tie.Need-chosen-requires Inv-loop μ-loop
@@ -110,12 +100,12 @@ chosen-requires c κs = search needs
 
 mul-starts : tie.Need-mul-starts Inv-loop μ-loop
 mul-starts c =
-    let h = c .before .before .before .before .before .before .before .loop .inv in
+    let h = c .before .before .before .before .before .before .before .before .loop .inv in
     omega (arith, operation-room h (omega (arith, h .sound .even-types)))
 
 element-write-starts : tie.Need-element-write-starts Inv-loop μ-loop
 element-write-starts c =
-    let h = c .before .before .before .before .before .before .before .loop .inv in
+    let h = c .before .before .before .before .before .before .before .before .loop .inv in
     omega (arith, operation-room h (omega (arith, h .sound .even-types)))
 
 add-p : tie.Need-add-p Inv-loop μ-loop
@@ -126,8 +116,8 @@ loop-less c = search needs
 
 loop-again : tie.Need-loop-again Inv-loop μ-loop
 loop-again c =
-    let h = c .before .before .before .before .before .before .before .loop .inv in
-    passing-step h _ _ (omega (arith, h .sound .even-types)) (c .before .before .takes .ensures) (c .chosen .ensures)
+    let h = c .before .before .before .before .before .before .before .before .loop .inv in
+    passing-step h _ _ (omega (arith, h .sound .even-types)) (c .before .before .takes .ensures _ _) (c .chosen .ensures)
 
 returns : tie.Need-returns Inv-loop μ-loop
 returns c =
@@ -140,7 +130,6 @@ apply-spec =
     (tie.spec
     Inv-loop
     μ-loop
-    candidates-requires
     in-use-requires
     loop-holds
     mul-i
@@ -150,8 +139,6 @@ apply-spec =
     cast-kind
     mul-takes
     array-read-takes
-    mul-takes-2
-    array-read-takes-2
     shared-slice-read-takes
     takes-requires
     mul-used
