@@ -1,17 +1,15 @@
 -- The frame of a question with an output row has one outcome, and is put together from its parts: the checks of the parts, one after another.
-use mathlib.Core.Path.{_≡_, refl, sym, ap, subst, _∙_}
+use mathlib.Core.Path.{_≡_, sym, ap, subst, _∙_}
 use mathlib.Core.Bool.{Bool, true, false}
 use mathlib.Core.Option.{Option, none, some}
-use mathlib.Core.List.{List, [], _∷_, _++_}
+use mathlib.Core.List.{List, _++_}
 use Prim.Native.Nat.{ℕ}
 use lib.Dec.{eqb}
-use lib.ListN.{length}
 use borrow.Author.Tests.{ne-eqb}
 use Rattle.laws.specs.Rows.{over}
 use Rattle.model.specs.Order.{Order}
-use Rattle.model.specs.Graph.{Graph, order}
 use Rattle.model.specs.Cycle.{Shown}
-use Rattle.model.specs.Refusals.{Rule, First, CycleOf, Late, Flat, cyclic, large-bound, late-bound}
+use Rattle.model.specs.Refusals.{Rule, First}
 use Rattle.model.specs.Answers.{CycleWritten, RowAfter, Fills, Answered, choose}
 use Rattle.model.specs.RefusalLaws.{Ones, first-one, first-hit, first-pass, Never, first-never}
 

@@ -1,7 +1,7 @@
 -- Demand 3: from first, asking each time for the next, gives the definition's list: each lawful schedule once, rising, and none left exactly when none is left.
 -- And each question has one answer.
 use mathlib.Core.Path.{_≡_, refl, ap, subst}
-use mathlib.Core.Logic.{_⊎_, ⊎-elim}
+use mathlib.Core.Logic.{⊎-elim}
 use mathlib.Core.Option.{Option, none, some}
 use mathlib.Core.List.{List, [], _∷_, List·Memᴰ·head, List·Memᴰ·tail, List·Memᴰ·not-nil, List·Memᴰ·cases-cons}
 use Prim.Native.Nat.{ℕ}
@@ -9,7 +9,7 @@ use lib.ListN.{length}
 use Rattle.laws.specs.TellLaws.{tells-true}
 use Rattle.laws.specs.Words.{Before, words, keep}
 use Rattle.laws.specs.WordLaws.{Among, Rising, rising-head, rising-tail, compare, same-list, before-not-self, before-not-after, before-trans, words-in, words-all, words-rising, keep-in, keep-all, keep-rising, isBefore, is-before}
-use Rattle.model.specs.Graph.{Graph, order, many, Sound}
+use Rattle.model.specs.Graph.{Graph, many, Sound}
 use Rattle.model.specs.Use.{Lawful}
 use Rattle.model.specs.RefusalLaws.{sound}
 use Rattle.model.specs.LawfulLaws.{is-lawful, lawful-word}

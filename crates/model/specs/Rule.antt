@@ -2,7 +2,6 @@
 use mathlib.Core.Path.{_≡_}
 use mathlib.Core.Bool.{Bool, true, false}
 use mathlib.Core.List.{List}
-use mathlib.Core.Logic.{_⊎_}
 use Prim.Native.Nat.{ℕ, zero, suc, _+_, _<_, _≤_}
 use lib.Dec.{leb, ltb, eqb}
 use lib.ListN.{length, set, take, replicate}
@@ -12,7 +11,6 @@ use Rattle.laws.specs.Count.{count}
 use Rattle.model.specs.Limits as limit
 use Rattle.model.specs.Order.{Edge, source, target}
 use Rattle.model.specs.Graph.{Graph, order, many, edgesOf, delay, typeOf}
-use Rattle.model.specs.Tables.{Latency}
 use Rattle.model.specs.Use.{runs}
 
 -- ---- labels

@@ -1,18 +1,16 @@
 -- The tables' answers have one outcome for every input: the refusal, and the output row.
-use mathlib.Core.Path.{_≡_, refl, ap, _∙_}
-use mathlib.Core.Logic.{⊎-elim}
-use mathlib.Core.List.{List, [], _∷_, _++_}
+use mathlib.Core.Path.{_≡_}
+use mathlib.Core.List.{List, _++_}
 use Prim.Native.Nat.{ℕ, _<_}
 use native.Mathlib.Omega.{arith}
 use lib.ListN.{length}
 use Rattle.model.specs.Limits as limit
 use Rattle.model.specs.Order.{Order}
 use Rattle.model.specs.Graph.{Graph, order}
-use Rattle.model.specs.Cycle.{Shown}
 use Rattle.model.specs.CycleLaws.{shown-one}
 use Rattle.model.specs.Tables.{Asap, Alap, Mobility}
 use Rattle.model.specs.TableLaws.{asap-one, alap-one, mobility-one}
-use Rattle.model.specs.Refusals.{Rule, CycleOf, Flat, Late, shape, output, cyclic, large-bound, late-bound, asapChecks, alapChecks}
+use Rattle.model.specs.Refusals.{Rule, CycleOf, Late, shape, output, cyclic, large-bound, late-bound, asapChecks, alapChecks}
 use Rattle.model.specs.RefusalLaws.{Ones, ones-append, ones-single, flat-one, shape-ones, output-ones, Never}
 use Rattle.model.specs.Answers.{refusalOf, Fills, Answered, AsapAnswer, AlapAnswer, MobilityAnswer}
 use Rattle.model.specs.AnswerLaws.{refusal-one}

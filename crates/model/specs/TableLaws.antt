@@ -1,11 +1,10 @@
 -- Each table has one value, and the latest starts are the earliest of the order turned round, read from the bound backwards.
-use mathlib.Core.Path.{_≡_, refl, sym, ap, subst, _∙_}
-use mathlib.Core.Logic.{⊎-elim}
+use mathlib.Core.Path.{_≡_, sym, ap, _∙_}
 use mathlib.Core.List.{List}
-use Prim.Native.Nat.{ℕ, _+_, _-_, _*_, _≤_, _<_}
+use Prim.Native.Nat.{ℕ, _+_, _-_, _≤_, _<_}
 use native.Mathlib.Omega.{arith}
 use lib.ListN.{length}
-use Rattle.laws.specs.Rows.{at, tabulate, tabulate-long, tabulate-at, same-row}
+use Rattle.laws.specs.Rows.{at, tabulate, tabulate-at, same-row}
 use Rattle.model.specs.Order.{Order, turned, size, edgeCount, weight, source, target, Closed, Edge, Walk, one, more, Cyclic}
 use Rattle.model.specs.Graph.{Graph, order, many}
 use Rattle.model.specs.Tables.{Keeps, Within, Earliest, Latest, Asap, Alap, Mobility, Latency}

@@ -1,7 +1,7 @@
 -- Earliest and latest starts, mobility, latency.
 use mathlib.Core.Path.{_≡_}
 use mathlib.Core.List.{List}
-use Prim.Native.Nat.{ℕ, zero, suc, _+_, _-_, _*_, _<_, _≤_}
+use Prim.Native.Nat.{ℕ, _+_, _-_, _<_, _≤_}
 use lib.ListN.{length}
 use Rattle.laws.specs.Rows.{at}
 use Rattle.model.specs.Order.{Order, size, edgeCount, weight, source, target}

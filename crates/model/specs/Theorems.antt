@@ -1,9 +1,7 @@
 -- What the definitions promise of every graph, in one place: cycles are shown exactly where there are any, and the tables are there.
-use mathlib.Core.Path.{_≡_, refl}
-use mathlib.Core.Logic.{_⊎_, ⊎-elim}
+use mathlib.Core.Logic.{⊎-elim}
 use mathlib.Core.List.{List}
 use Prim.Native.Nat.{ℕ, _+_, _-_, _≤_, _<_}
-use native.Mathlib.Omega.{arith}
 use Rattle.laws.specs.Cases.{same-or-not}
 use Rattle.laws.specs.Rows.{at, tabulate, tabulate-at}
 use Rattle.model.specs.Order.{Order, turned, size, weight, Closed, Cyclic}
@@ -12,7 +10,7 @@ use Rattle.model.specs.CycleLaws.{SomeShown, shown-cyclic, cyclic-shown}
 use Rattle.model.specs.OrderLaws.{kept-decided, acyclic-earliest, EarliestRow}
 use Rattle.model.specs.PlacingLaws.{placing-exists, placing-done, placing-cyclic}
 use Rattle.model.specs.RefusalLaws.{closed-turned}
-use Rattle.model.specs.Tables.{Keeps, Within, Earliest, Latest, Latency}
+use Rattle.model.specs.Tables.{Earliest, Latest, Latency}
 use Rattle.model.specs.TableLaws.{mirror, mirror-keeps, keeps-acyclic, latest-turned, latency-within, asap-alap}
 
 -- an order has a shown cycle exactly when it is cyclic

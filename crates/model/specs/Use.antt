@@ -1,6 +1,6 @@
 -- Unit use, what makes a schedule lawful, and peak use.
 use mathlib.Core.Path.{_≡_}
-use mathlib.Core.Bool.{Bool, true, false}
+use mathlib.Core.Bool.{Bool}
 use mathlib.Core.List.{List}
 use Prim.Native.Nat.{ℕ, _+_, _<_, _≤_}
 use lib.Dec.{leb, ltb, eqb}

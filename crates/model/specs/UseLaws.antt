@@ -72,6 +72,10 @@ running-same g s t k l same = count-same (runs g s k l) (runs g t k l) (many g) 
 pub peak-one : (g : Graph) (t : List ℕ) (k p q : ℕ) → Peak g t k p → Peak g t k q → p ≡ q
 peak-one g t k p q a b = omega (arith, a .met, b .met, a .never-more (b .at-step), b .never-more (a .at-step))
 
+-- a type that nobody uses has a peak of 0
+pub peak-unused : (g : Graph) (t : List ℕ) (k p : ℕ) → None (λ i. typeOf g i ≡ k) (many g) → Peak g t k p → p ≡ 0
+peak-unused g t k p none h = omega (arith, h .met, running-none g t k (h .at-step) (λ i l r. none i l (r .kind)))
+
 -- ---- a maximum is met at some operation's start
 
 -- how many of the first m operations are of type k and running at step l

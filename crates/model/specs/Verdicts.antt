@@ -1,9 +1,9 @@
 -- What the checker and peak use answer, for every input.
 use mathlib.Core.Path.{_≡_}
 use mathlib.Core.Option.{Option, none, some}
-use mathlib.Core.List.{List, [], _∷_, _++_}
+use mathlib.Core.List.{List, _++_}
 use mathlib.Core.Logic.{_⊎_}
-use Prim.Native.Nat.{ℕ, _<_, _≤_}
+use Prim.Native.Nat.{ℕ, _<_}
 use lib.ListN.{length, replicate}
 use Rattle.laws.specs.Rows.{at}
 use Rattle.laws.specs.Lowest.{Lowest, None}

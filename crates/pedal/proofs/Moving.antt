@@ -1,14 +1,14 @@
 -- The two ways through `pedal_advance`: the row is no state's, or the advance's starts are written over it whole.
 use mathlib.Core.Path.{_≡_, refl, sym, ap, subst, _∙_}
-use mathlib.Core.Bool.{true, false}
+use mathlib.Core.Bool.{false}
 use mathlib.Core.Option.{Option, none, some}
 use mathlib.Core.Logic.{⊎-elim}
-use mathlib.Core.List.{List, [], _++_, append-nil}
+use mathlib.Core.List.{List}
 use Prim.Native.Nat.{ℕ}
 use native.Mathlib.Omega.{arith}
-use lib.ListN.{length, take, drop}
-use lib.Seq.{take-all, drop-length}
-use Rattle.laws.specs.Rows.{at, over, tabulate-long, same-row, over-long, over-front}
+use lib.ListN.{length, take}
+use lib.Seq.{take-all}
+use Rattle.laws.specs.Rows.{over, tabulate-long, same-row, over-long, over-front}
 use Rattle.model.specs.Limits as limit
 use Rattle.model.specs.Graph.{Graph}
 use Rattle.model.specs.Rule.{stepped}
@@ -18,7 +18,7 @@ use Rattle.model.specs.Answers.{refusalOf}
 use Rattle.model.specs.ScheduleLaws.{all-or-not}
 use Rattle.model.specs.Scheduling.{AdvanceAnswer, StateAfter}
 use Rattle.model.specs.declared.Answer.{Answer}
-use Rattle.pedal.specs.Face.{HandsOn, MoveSaid, filledOf, movedOf}
+use Rattle.pedal.specs.Face.{MoveSaid, filledOf}
 use Rattle.pedal.specs.declared.Filled.{Filled}
 
 stepped-long : (g : Graph) (labels units t : List ℕ) (l : ℕ) → length (stepped g labels units t l) ≡ length t

@@ -1,7 +1,7 @@
 -- What the face says is one outcome, since what the entry points say is one: the numbers, and every lent row.
-use mathlib.Core.Path.{_≡_, refl, sym, ap, subst, _∙_}
+use mathlib.Core.Path.{_≡_, sym, ap, _∙_}
 use mathlib.Core.Logic.{⊎-elim}
-use mathlib.Core.Option.{Option, none, some}
+use mathlib.Core.Option.{Option}
 use mathlib.Core.List.{List}
 use Prim.Native.Nat.{ℕ}
 use lib.ListN.{length}
@@ -13,7 +13,7 @@ use Rattle.model.specs.RefusalLaws.{shape-ones}
 use Rattle.model.specs.Answers.{AsapAnswer, AlapAnswer, MobilityAnswer, refusalOf}
 use Rattle.model.specs.AnswerLaws.{refusal-one, answer-one}
 use Rattle.model.specs.TableAnswers.{asap-answer-one, alap-answer-one, mobility-answer-one}
-use Rattle.model.specs.Scheduling.{ListAnswer, AdvanceAnswer}
+use Rattle.model.specs.Scheduling.{ListAnswer}
 use Rattle.model.specs.ScheduleLaws.{list-answer-one, advance-answer-one}
 use Rattle.model.specs.Verdicts.{Checked, PeakAnswer}
 use Rattle.model.specs.Listing.{ListerAnswer}

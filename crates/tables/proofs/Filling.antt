@@ -1,8 +1,8 @@
 -- The end of each table: the row is written over the output's first entries, and the rest stays.
 use mathlib.Core.Path.{_≡_, refl, sym, ap, subst, _∙_}
-use mathlib.Core.Option.{Option, none, some}
-use mathlib.Core.List.{List, _++_}
-use Prim.Native.Nat.{ℕ, _-_, _≤_, _<_}
+use mathlib.Core.Option.{none, some}
+use mathlib.Core.List.{List}
+use Prim.Native.Nat.{ℕ, _≤_, _<_}
 use native.Mathlib.Omega.{arith}
 use lib.ListN.{length, take}
 use Rattle.laws.specs.Rows.{at, over, take-at, take-long}
@@ -11,9 +11,9 @@ use Rattle.model.specs.Order.{Order, Closed}
 use Rattle.model.specs.Graph.{Graph, order, many, Sound}
 use Rattle.model.specs.Tables.{Earliest, Latest, Asap, Alap, Mobility}
 use Rattle.model.specs.TableLaws.{earliest-same, latest-same, asap-alap}
-use Rattle.model.specs.Refusals.{Rule, First, asapChecks, alapChecks}
+use Rattle.model.specs.Refusals.{Rule, asapChecks, alapChecks}
 use Rattle.model.specs.RefusalLaws.{closed}
-use Rattle.model.specs.Answers.{refusalOf, numbered, Answered, Fills, AsapAnswer, AlapAnswer, MobilityAnswer}
+use Rattle.model.specs.Answers.{numbered, Answered, Fills, AsapAnswer, AlapAnswer, MobilityAnswer}
 use Rattle.model.specs.FrameLaws.{answered-again, row-is, row-given}
 use Rattle.model.specs.declared.Answer.{Answer}
 use Rattle.model.specs.declared.Answer.the-variants.{Done, Refused}

@@ -1,17 +1,17 @@
 -- The loop of `latest`: below i the row has the latest starts, after it zeros; at the end it is the latest row.
-use mathlib.Core.Path.{_≡_, refl, sym, ap, _∙_}
+use mathlib.Core.Path.{_≡_, sym, ap, _∙_}
 use mathlib.Core.Logic.{⊎-elim}
 use mathlib.Core.List.{List}
-use Prim.Native.Nat.{ℕ, _+_, _-_, _*_, _≤_, _<_}
+use Prim.Native.Nat.{ℕ, _+_, _-_, _≤_, _<_}
 use native.Mathlib.Omega.{arith}
 use lib.ListN.{length, set, replicate, length-set, length-replicate}
 use lib.Seq.{getD-set-same, getD-set-other}
-use Rattle.laws.specs.Cases.{same-or-not, lt-or-le}
+use Rattle.laws.specs.Cases.{same-or-not}
 use Rattle.laws.specs.Rows.{at, blank}
 use Rattle.model.specs.Limits as limit
 use Rattle.model.specs.Order.{Order, turned, size, weight, Closed}
 use Rattle.model.specs.Placing.{Placing}
-use Rattle.model.specs.Tables.{Keeps, Within, Earliest, Latest}
+use Rattle.model.specs.Tables.{Keeps, Earliest}
 use Rattle.model.specs.RefusalLaws.{closed-turned}
 use Rattle.model.specs.PlacingLaws.{placing-done, placing-cyclic}
 use Rattle.model.specs.TableLaws.{latest-turned, mirror, mirror-at, mirror-keeps, keeps-acyclic}

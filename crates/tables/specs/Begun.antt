@@ -1,7 +1,7 @@
 -- What the tables' common beginning leaves: the answer so far, the earliest starts, and the output row.
 use mathlib.Core.Path.{_≡_}
-use mathlib.Core.Option.{Option, none}
-use mathlib.Core.List.{List, _++_}
+use mathlib.Core.Option.{none}
+use mathlib.Core.List.{List}
 use Prim.Native.Nat.{ℕ, _≤_}
 use lib.ListN.{length}
 use Rattle.laws.specs.Rows.{at}

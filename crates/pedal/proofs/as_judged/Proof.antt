@@ -1,6 +1,6 @@
 -- `as_judged` says the verdict in numbers: each case by its own.
 use Prim.Native.Nat.{ℕ}
-use mathlib.Core.Path.{_≡_, sym, ap, ap₂, _∙_}
+use mathlib.Core.Path.{sym, ap, ap₂, _∙_}
 use Rattle.pedal.specs.Face.{judgedOf}
 use borrow.Author.Needs.{needs}
 use Rattle.pedal.proofs.as_judged.Statement.{statement}

@@ -1,6 +1,5 @@
 -- `starts_of` copies the row, entry by entry.
 use Prim.Native.Nat.{_-_}
-use native.Mathlib.Omega.{arith}
 use borrow.Author.Needs.{needs}
 use Rattle.model.specs.Limits as limit
 use Rattle.pedal.proofs.Copying.{Copying, copying-none, copying-step, copying-end}

@@ -1,5 +1,5 @@
 -- `latest` meets its contract: the start turned round and the delay fit below the bound, so that no difference wraps.
-use Prim.Native.Nat.{ℕ, _+_, _-_, _≤_, _<_}
+use Prim.Native.Nat.{_+_, _-_, _≤_}
 use native.Mathlib.Omega.{arith}
 use borrow.Author.Needs.{needs}
 use lib.ListN.{length}

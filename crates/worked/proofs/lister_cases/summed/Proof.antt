@@ -1,8 +1,6 @@
 -- `summed` ends: what is left of the row falls with each turn.
-use Prim.Native.Nat.{ℕ, _+_, _-_, _≤_, _<_}
-use mathlib.Core.Path.{_≡_}
+use Prim.Native.Nat.{_-_, _≤_}
 use borrow.Author.Needs.{needs}
-use lib.ListN.{length}
 use Rattle.model.specs.Limits as limit
 use Rattle.worked.proofs.lister_cases.summed.Statement.{statement}
 use Rattle.worked.proofs.lister_cases.summed.Tie as tie

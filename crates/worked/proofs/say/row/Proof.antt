@@ -1,5 +1,5 @@
 -- `row` ends: what is left of the entries falls with each turn.
-use Prim.Native.Nat.{ℕ, _+_, _-_, _≤_, _<_}
+use Prim.Native.Nat.{_-_, _≤_}
 use borrow.Author.Needs.{needs}
 use lib.ListN.{length}
 use Rattle.worked.proofs.say.row.Statement.{statement}
