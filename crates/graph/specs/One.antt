@@ -9,7 +9,7 @@ use Rattle.laws.specs.Cases.{lt-or-le}
 use Rattle.laws.specs.Rows.{over}
 use Rattle.model.specs.Graph.{Graph}
 use Rattle.model.specs.Refusals.{First, shape, output, unitless}
-use Rattle.model.specs.RefusalLaws.{ones-append, shape-ones, output-ones, unitless-ones}
+use Rattle.model.specs.RefusalLaws.{shape-ones, unitless-ones, front-ones, graph-unit-ones, front-unit-ones}
 use Rattle.model.specs.Answers.{refusalOf}
 use Rattle.model.specs.AnswerLaws.{answer-one}
 use Rattle.model.specs.declared.Answer.{Answer}
@@ -22,8 +22,7 @@ graph-fault-one g Own = answer-one (shape g Own) (shape-ones g Own)
 -- of `front`
 pub front-one : (g : Graph) (Own : Type 0) (room : ℕ) (r s : Answer) → First (shape g Own ++ output g room) (refusalOf r)
     → First (shape g Own ++ output g room) (refusalOf s) → r ≡ s
-front-one g Own room =
-    answer-one (shape g Own ++ output g room) (ones-append (shape g Own) (output g room) (shape-ones g Own) (output-ones g room))
+front-one g Own room = answer-one (shape g Own ++ output g room) (front-ones g Own room)
 
 -- of `unit_fault`
 pub unit-fault-one : (g : Graph) (units : List ℕ) (r s : Answer) → First (unitless g units) (refusalOf r) → First (unitless g units) (refusalOf s) → r ≡ s
@@ -32,17 +31,14 @@ unit-fault-one g units = answer-one (unitless g units) (unitless-ones g units)
 -- of `graph_unit_fault`
 pub graph-unit-fault-one : (g : Graph) (Own : Type 0) (units : List ℕ) (r s : Answer) → First (shape g Own ++ unitless g units) (refusalOf r)
     → First (shape g Own ++ unitless g units) (refusalOf s) → r ≡ s
-graph-unit-fault-one g Own units =
-    answer-one (shape g Own ++ unitless g units) (ones-append (shape g Own) (unitless g units) (shape-ones g Own) (unitless-ones g units))
+graph-unit-fault-one g Own units = answer-one (shape g Own ++ unitless g units) (graph-unit-ones g Own units)
 
 -- of `front_unit_fault`
 pub front-unit-fault-one : (g : Graph) (Own : Type 0) (room : ℕ) (units : List ℕ) (r s : Answer)
     → First ((shape g Own ++ output g room) ++ unitless g units) (refusalOf r)
     → First ((shape g Own ++ output g room) ++ unitless g units) (refusalOf s) → r ≡ s
 front-unit-fault-one g Own room units =
-    answer-one ((shape g Own ++ output g room) ++ unitless g units)
-    (ones-append (shape g Own ++ output g room) (unitless g units)
-    (ones-append (shape g Own) (output g room) (shape-ones g Own) (output-ones g room)) (unitless-ones g units))
+    answer-one ((shape g Own ++ output g room) ++ unitless g units) (front-unit-ones g Own room units)
 
 -- of `fill`: one content of the output
 pub fill-one : (row before : List ℕ) (n : ℕ) (out other : List ℕ) → out ≡ over (take n row) before → other ≡ over (take n row) before → out ≡ other

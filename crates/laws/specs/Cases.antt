@@ -7,12 +7,15 @@ use Prim.Native.Nat.{ℕ, _≤_, _<_}
 use native.Mathlib.Decide.{decLe, ℕ-discrete}
 use native.Mathlib.Omega.{arith}
 
+-- two numbers are the same, or not
 pub same-or-not : (a b : ℕ) → (a ≡ b) ⊎ (a ≡ b → ⊥)
 same-or-not a b = elim (ℕ-discrete a b) [ yes p ↦ inl p | no p ↦ inr p ]
 
+-- one is at most the other, or above it
 pub le-or-lt : (a b : ℕ) → (a ≤ b) ⊎ (b < a)
 le-or-lt a b = elim (decLe a b) [ yes p ↦ inl p | no p ↦ inr (omega arith) ]
 
+-- one is below the other, or not
 pub lt-or-le : (a b : ℕ) → (a < b) ⊎ (b ≤ a)
 lt-or-le a b = elim (decLe b a) [ yes p ↦ inr p | no p ↦ inl (omega arith) ]
 
@@ -32,6 +35,7 @@ pub record Tells (r : Bool) (P : Type 0) : Type 0 where
   pub yes : r ≡ true → P
   pub none : r ≡ false → P → ⊥
 
+-- what holds is told by a test that passes, what does not by one that fails
 pub tells-yes : {P : Type 0} → P → Tells true P
 tells-yes p = record { yes = λ e. p; none = λ e. absurd (true≢false e) }
 

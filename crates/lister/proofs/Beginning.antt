@@ -7,7 +7,7 @@ use native.Mathlib.Omega.{arith}
 use lib.ListN.{length}
 use Rattle.model.specs.Graph.{Graph, order, many, Sound}
 use Rattle.model.specs.Refusals.{Rule, First, shape, output, unitless, cyclic}
-use Rattle.model.specs.RefusalLaws.{first-none-append, room-enough, sound, own-not, Never, never-append, shape-never, output-never, unitless-never}
+use Rattle.model.specs.RefusalLaws.{first-none-append, room-enough, sound, own-not, front-unit-never}
 use Rattle.model.specs.Answers.{refusalOf, numbered}
 use Rattle.model.specs.AnswerLaws.{first-told, refused-passes}
 use Rattle.model.specs.FrameLaws.{refused-stays, answered-refused, answered-passed}
@@ -26,17 +26,11 @@ module _ (g : Graph) (units : List ℕ) (Own : Type 0) (before : List ℕ) where
   abbrev six : List Rule
   six = five ++ unitless g units
 
-  six-never : Never 7 six
-  six-never =
-      never-append 7 five (unitless g units)
-      (never-append 7 (shape g Own) (output g (length before)) (shape-never g Own 7 (omega arith)) (output-never g (length before) 7 (omega arith)))
-      (unitless-never g units 7 (omega arith))
-
   -- refused by one of the first six, the row stays
   refused : (why : Refusal) (s : List ℕ) → First six (some (numbered why)) → Begun g units Own before (Refused why) s before
   refused why s h = record {
     answered = answered-refused (order g) six (cyclic (order g)) before (λ r. r ≡ before) (λ r. r ≡ before) (numbered why) before
-        (refused-stays (order g) six before (λ r. r ≡ before) (numbered why) before six-never h refl);
+        (refused-stays (order g) six before (λ r. r ≡ before) (numbered why) before (front-unit-never g Own (length before) units 7 (omega arith)) h refl);
     sound = refused-passes why;
     own = refused-passes why;
     room = refused-passes why;

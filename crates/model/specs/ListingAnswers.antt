@@ -8,7 +8,7 @@ use lib.Seq.{take-at}
 use Rattle.laws.specs.Cases.{none-some, some-one}
 use Rattle.model.specs.Graph.{Graph, order, many, Sound}
 use Rattle.model.specs.Refusals.{Rule, First, output, unitless, cyclic}
-use Rattle.model.specs.RefusalLaws.{Ones, first-none-append, sound, first-one, flat-one, ones-single, ones-append, shape-ones, output-ones, unitless-ones}
+use Rattle.model.specs.RefusalLaws.{Ones, first-none-append, sound, first-one, flat-one, ones-single, ones-append, front-unit-ones}
 use Rattle.model.specs.Answers.{numbered, RowAfter}
 use Rattle.model.specs.AnswerLaws.{numbered-one}
 use Rattle.model.specs.CycleLaws.{shown-one}
@@ -23,9 +23,7 @@ use Rattle.model.specs.ListingLaws.{least-one, least-left, asked-all, as
 lister-ones : (g : Graph) (units : List ℕ) (bound : ℕ) (asked : Option (List ℕ)) (room : ℕ) → Ones (listerChecks g units bound asked room)
 lister-ones g units bound asked room =
     ones-append _ _
-    (ones-append _ _
-    (ones-append _ _ (ones-append _ _ (shape-ones g (ListerUneven g units asked)) (output-ones g room)) (unitless-ones g units))
-    (cyclic-ones (order g)))
+    (ones-append _ _ (front-unit-ones g (ListerUneven g units asked) room units) (cyclic-ones (order g)))
     (ones-append _ _ (ones-append _ _ (large-bound-ones bound) (late-bound-ones (order g) bound))
     (ones-single _ (flat-one 10 (ManyWindows g bound))))
 

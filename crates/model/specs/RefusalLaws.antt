@@ -79,6 +79,16 @@ output-ones g room = ones-single _ (flat-one 5 (room < many g))
 pub unitless-ones : (g : Graph) (units : List ℕ) → Ones (unitless g units)
 unitless-ones g units = ones-single _ (at-lowest-one 6 (g .kinds) (NoUnit g units))
 
+-- so does each of the first five, of the first four and the sixth, and of the first six
+pub front-ones : (g : Graph) (Own : Type 0) (room : ℕ) → Ones (shape g Own ++ output g room)
+front-ones g Own room = ones-append (shape g Own) (output g room) (shape-ones g Own) (output-ones g room)
+
+pub graph-unit-ones : (g : Graph) (Own : Type 0) (units : List ℕ) → Ones (shape g Own ++ unitless g units)
+graph-unit-ones g Own units = ones-append (shape g Own) (unitless g units) (shape-ones g Own) (unitless-ones g units)
+
+pub front-unit-ones : (g : Graph) (Own : Type 0) (room : ℕ) (units : List ℕ) → Ones ((shape g Own ++ output g room) ++ unitless g units)
+front-unit-ones g Own room units = ones-append (shape g Own ++ output g room) (unitless g units) (front-ones g Own room) (unitless-ones g units)
+
 -- ---- put together
 
 -- a rule that says something decides
@@ -343,20 +353,17 @@ pub unitless-never : (g : Graph) (units : List ℕ) (number : ℕ) → 6 < numbe
 unfolding Never
 unitless-never g units number l = (λ p h. omega (arith, h .is), tt)
 
--- the first six rows never say that the graph has a cycle
-pub shape-not-cycle : (g : Graph) (Own : Type 0) (r : ℕ × ℕ) → First (shape g Own) (some r) → r .0 ≡ 7 → ⊥
-shape-not-cycle g Own r = first-never 7 (shape g Own) r (shape-never g Own 7 (omega arith))
+-- so the first five say no number above 5, and the first six none above 6
+pub front-never : (g : Graph) (Own : Type 0) (room number : ℕ) → 5 < number → Never number (shape g Own ++ output g room)
+front-never g Own room number l =
+    never-append number (shape g Own) (output g room) (shape-never g Own number (omega arith)) (output-never g room number l)
 
-pub output-not-cycle : (g : Graph) (room : ℕ) (r : ℕ × ℕ) → First (output g room) (some r) → r .0 ≡ 7 → ⊥
-output-not-cycle g room r = first-never 7 (output g room) r (output-never g room 7 (omega arith))
-
-pub unitless-not-cycle : (g : Graph) (units : List ℕ) (r : ℕ × ℕ) → First (unitless g units) (some r) → r .0 ≡ 7 → ⊥
-unitless-not-cycle g units r = first-never 7 (unitless g units) r (unitless-never g units 7 (omega arith))
-
-pub front-not-cycle : (g : Graph) (Own : Type 0) (room : ℕ) (r : ℕ × ℕ) → First (shape g Own ++ output g room) (some r) → r .0 ≡ 7 → ⊥
-front-not-cycle g Own room r =
-    first-never 7 (shape g Own ++ output g room) r
-    (never-append 7 (shape g Own) (output g room) (shape-never g Own 7 (omega arith)) (output-never g room 7 (omega arith)))
+pub front-unit-never : (g : Graph) (Own : Type 0) (room : ℕ) (units : List ℕ) (number : ℕ) → 6 < number
+    → Never number ((shape g Own ++ output g room) ++ unitless g units)
+front-unit-never g Own room units number l =
+    never-append number (shape g Own ++ output g room) (unitless g units)
+    (front-never g Own room number (omega arith))
+    (unitless-never g units number l)
 
 -- ---- what precedence reads of a sound graph
 

@@ -16,7 +16,7 @@ use Rattle.model.specs.Order.{Order, Closed}
 use Rattle.model.specs.Graph.{Graph, Sound, order, many, delay, busyTime}
 use Rattle.model.specs.Tables.{Latency}
 use Rattle.model.specs.Refusals.{First, Flat, shape, output, unitless, cyclic}
-use Rattle.model.specs.RefusalLaws.{first-pass, first-silent, first-end, flat-silent, Ones, first-one, flat-one, ones-single, ones-append, shape-ones, output-ones, unitless-ones, has-unit, closed, sound}
+use Rattle.model.specs.RefusalLaws.{first-pass, first-silent, first-end, flat-silent, Ones, first-one, flat-one, ones-single, ones-append, graph-unit-ones, front-unit-ones, has-unit, closed, sound}
 use Rattle.model.specs.TableLaws.{keeps-acyclic}
 use Rattle.model.specs.AnswerLaws.{numbered-one}
 use Rattle.model.specs.FrameLaws.{answered-one, row-is}
@@ -59,15 +59,15 @@ doable g units s freed staffed free =
 list-ones : (g : Graph) (units : List ℕ) (room : ℕ) → Ones (listChecks g units room)
 list-ones g units room =
     ones-append ((shape g (length units ≡ g .kinds → ⊥) ++ output g room) ++ unitless g units) (cyclic (order g))
-    (ones-append (shape g (length units ≡ g .kinds → ⊥) ++ output g room) (unitless g units)
-    (ones-append (shape g (length units ≡ g .kinds → ⊥)) (output g room) (shape-ones g _) (output-ones g room)) (unitless-ones g units))
+    (front-unit-ones g (length units ≡ g .kinds → ⊥) room units)
     (cyclic-ones (order g))
 
 advance-ones : (g : Graph) (units t : List ℕ) (step : ℕ) → Ones (advanceChecks g units t step)
 advance-ones g units t step =
     ones-append ((shape g (length units ≡ g .kinds → ⊥) ++ unitless g units) ++ cyclic (order g)) (Flat 11 (Outside g t step) ∷ [])
     (ones-append (shape g (length units ≡ g .kinds → ⊥) ++ unitless g units) (cyclic (order g))
-    (ones-append (shape g (length units ≡ g .kinds → ⊥)) (unitless g units) (shape-ones g _) (unitless-ones g units)) (cyclic-ones (order g)))
+    (graph-unit-ones g (length units ≡ g .kinds → ⊥) units)
+    (cyclic-ones (order g)))
     (ones-single _ (flat-one 11 (Outside g t step)))
 
 -- the same list schedule has the same latency and is written alike

@@ -11,7 +11,7 @@ use Rattle.model.specs.CycleLaws.{shown-one}
 use Rattle.model.specs.Tables.{Asap, Alap, Mobility}
 use Rattle.model.specs.TableLaws.{asap-one, alap-one, mobility-one}
 use Rattle.model.specs.Refusals.{Rule, CycleOf, Late, shape, output, cyclic, large-bound, late-bound, asapChecks, alapChecks}
-use Rattle.model.specs.RefusalLaws.{Ones, ones-append, ones-single, flat-one, shape-ones, output-ones, Never}
+use Rattle.model.specs.RefusalLaws.{Ones, ones-append, ones-single, flat-one, front-ones, Never}
 use Rattle.model.specs.Answers.{refusalOf, Fills, Answered, AsapAnswer, AlapAnswer, MobilityAnswer}
 use Rattle.model.specs.AnswerLaws.{refusal-one}
 use Rattle.model.specs.FrameLaws.{answered-one, fills-one}
@@ -46,7 +46,7 @@ late-bound-never o bound number l = (λ p h. omega (arith, h .is), tt)
 asap-ones : (g : Graph) (room : ℕ) → Ones (asapChecks g room)
 asap-ones g room =
     ones-append (shape g ⊥ ++ output g room) (cyclic (order g))
-    (ones-append (shape g ⊥) (output g room) (shape-ones g ⊥) (output-ones g room))
+    (front-ones g ⊥ room)
     (cyclic-ones (order g))
 
 alap-ones : (g : Graph) (bound room : ℕ) → Ones (alapChecks g bound room)

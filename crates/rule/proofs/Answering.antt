@@ -16,7 +16,7 @@ use Rattle.model.specs.Graph.{Graph, Sound, order, many, lent}
 use Rattle.model.specs.Tables.{Latency}
 use Rattle.model.specs.TableLaws.{within-same}
 use Rattle.model.specs.Refusals.{Rule, First, Flat, shape, output, unitless, cyclic}
-use Rattle.model.specs.RefusalLaws.{closed, first-hit, first-pass, first-says, first-silent, first-end, first-none-append, flat-says, flat-silent, room-enough, Never, never-append, shape-never, output-never, unitless-never}
+use Rattle.model.specs.RefusalLaws.{closed, first-hit, first-pass, first-says, first-silent, first-end, first-none-append, flat-says, flat-silent, room-enough, front-unit-never}
 use Rattle.model.specs.Answers.{Answered, refusalOf}
 use Rattle.model.specs.FrameLaws.{row-given, row-is, answered-refused, refused-stays, answered-passed}
 use Rattle.model.specs.Progress.{Doable}
@@ -154,18 +154,12 @@ pub told : {o : Order} {checks : List Rule} {before after : List ℕ} {Given : L
 told {o} {checks} {before} {after} {Given} e h = subst (λ (x : Answer). Answered o checks before Given (refusalOf x) after) e h
 
 module _ (g : Graph) (units before : List ℕ) where
-  never-cycle : Never 7 (listFront g units (length before))
-  never-cycle =
-      never-append 7 (shape g (length units ≡ g .kinds → ⊥) ++ output g (length before)) (unitless g units)
-      (never-append 7 (shape g (length units ≡ g .kinds → ⊥)) (output g (length before)) (shape-never g _ 7 (omega arith)) (output-never g (length before) 7 (omega arith)))
-      (unitless-never g units 7 (omega arith))
-
   -- refused by the first six: the row stays
   pub list-refused : (Given : List ℕ → Type 0) (r : ℕ × ℕ) → First (listFront g units (length before)) (some r)
       → Answered (order g) (listChecks g units (length before)) before Given (some r) before
   list-refused Given r h =
       answered-refused (order g) (listFront g units (length before)) (cyclic (order g)) before Given Given r before
-      (refused-stays (order g) (listFront g units (length before)) before Given r before never-cycle h refl)
+      (refused-stays (order g) (listFront g units (length before)) before Given r before (front-unit-never g _ (length before) units 7 (omega arith)) h refl)
 
   module _ (h : First (listFront g units (length before)) none) where
     -- refused as cyclic: the row as `place` left it

@@ -11,7 +11,7 @@ use Rattle.model.specs.Graph.{Graph, order, many, Sound}
 use Rattle.model.specs.Tables.{Latency}
 use Rattle.model.specs.TableLaws.{latency-within, not-late}
 use Rattle.model.specs.Refusals.{Rule, First, shape, output, cyclic, large-bound, late-bound, asapChecks, alapChecks}
-use Rattle.model.specs.RefusalLaws.{first-none-append, first-pass, first-hit, first-says, first-silent, first-end, flat-says, flat-silent, shape-own-then, room-enough, sound, closed, Never, never-append, shape-never, output-never}
+use Rattle.model.specs.RefusalLaws.{first-none-append, first-pass, first-hit, first-says, first-silent, first-end, flat-says, flat-silent, shape-own-then, room-enough, sound, closed, Never, never-append, front-never}
 use Rattle.model.specs.Answers.{refusalOf, numbered, Answered}
 use Rattle.model.specs.AnswerLaws.{first-told, refused-passes}
 use Rattle.model.specs.FrameLaws.{refused-stays, answered-refused, answered-passed, row-is, row-given}
@@ -32,10 +32,6 @@ abbrev back : Graph → ℕ → List Rule
 back g bound = large-bound bound ++ late-bound (order g) bound
 
 module _ (g : Graph) (before : List ℕ) where
-  front-never : Never 7 (front g before)
-  front-never =
-      never-append 7 (shape g ⊥) (output g (length before)) (shape-never g ⊥ 7 (omega arith)) (output-never g (length before) 7 (omega arith))
-
   -- the tables have no rows of their own to match
   bare : (x : Option (ℕ × ℕ)) → First (shape g (true ≡ false) ++ output g (length before)) x → First (front g before) x
   bare x h = shape-own-then g (true ≡ false) ⊥ true≢false (λ e. absurd e) (output g (length before)) x h
@@ -46,7 +42,7 @@ module _ (g : Graph) (before : List ℕ) where
         let first = bare (some (numbered why)) (first-told _ e h) in
         record {
           answered = answered-refused (order g) (front g before) (cyclic (order g)) before (λ r. r ≡ before) (λ r. r ≡ before) (numbered why) before
-              (refused-stays (order g) (front g before) before (λ r. r ≡ before) (numbered why) before front-never first refl);
+              (refused-stays (order g) (front g before) before (λ r. r ≡ before) (numbered why) before (front-never g ⊥ (length before) 7 (omega arith)) first refl);
           sound = refused-passes why;
           room = refused-passes why;
           long = refused-passes why;
