@@ -48,7 +48,7 @@ module _ (g : Graph) (units : List ℕ) (bound : ℕ) (t : List ℕ) where
   pub check-pass : (x : Option (ℕ × ℕ)) → First (checkFront g units t) none → First (checkBack g bound) x → First (checkChecks g units bound t) x
   check-pass x h k = first-pass (checkFront g units t) (checkBack g bound) x h k
 
--- and the rows match, so that the graph is sound
+-- and there the graph is sound and the rows match
 module _ (g : Graph) (units t : List ℕ) (h : First (checkFront g units t) none) where
   shaped : First (shape g (CheckUneven g units t)) none
   shaped = first-none-append (shape g (CheckUneven g units t)) (unitless g units) h .0
