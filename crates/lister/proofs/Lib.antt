@@ -1,4 +1,3 @@
-mod Counting
 mod Turns
 mod Whole
 mod Product

@@ -18,7 +18,7 @@ use Rattle.laws.specs.WordLaws.{same-none, same-refl, same-sym, same-trans, sam
 use Rattle.model.specs.Limits as limit
 use Rattle.model.specs.Graph.{Graph, many, Sound}
 use Rattle.model.specs.Use.{runs}
-use Rattle.lister.specs.Fit.{users, inUse, EdgeKept, Room, Fits}
+use Rattle.fit.specs.Fit.{users, inUse, EdgeKept, Room, Fits}
 use Rattle.lister.specs.Search.{Job, Sized, Placed, Ready, Completes, Searched, Begins, Stays, Tried}
 
 -- ---- what stands up to i decides whether i fits

@@ -18,13 +18,12 @@ use Rattle.laws.specs.WordLaws.{same-none, same-sym, before-same}
 use Rattle.model.specs.Graph.{Graph, order, many, typeOf, Sound}
 use Rattle.model.specs.Order.{source, target}
 use Rattle.model.specs.Tables.{Earliest, Latest}
-use Rattle.model.specs.Use.{runs, running, Lawful}
+use Rattle.model.specs.Use.{runs, Lawful}
 use Rattle.model.specs.UseLaws.{runs-true, runningFirst}
 use Rattle.model.specs.LawfulLaws.{lawful-in-window}
 use Rattle.model.specs.Listing.{Later, Least, NoneLeft, Gives}
 use Rattle.model.specs.declared.Listed.{Listed}
-use Rattle.model.specs.declared.Listed.the-variants as answers
-use Rattle.lister.specs.Fit.{inUse}
+use Rattle.fit.specs.Fit.{inUse}
 use Rattle.lister.specs.Search.{Job, Placed, Completes, Searched}
 use Rattle.lister.specs.Asking.{askedOf, Given, Sought}
 use Rattle.lister.proofs.Turns.{placed-local}

@@ -1,4 +1,3 @@
-pub mod Fit
 pub mod Search
 pub mod Asking
 pub mod One

@@ -8,7 +8,7 @@ use Rattle.laws.specs.Rows.{at, tabulate}
 use Rattle.laws.specs.Words.{Same, Before}
 use Rattle.model.specs.Limits as limit
 use Rattle.model.specs.Graph.{Graph, many, lent, Sound}
-use Rattle.lister.specs.Fit.{Fits}
+use Rattle.fit.specs.Fit.{Fits}
 
 -- a graph, unit counts, the first and the last start of each operation's window, and the row asked after
 pub record Job : Type 0 where

@@ -1,5 +1,4 @@
 // The lister of all lawful schedules: the least one, and the least one after a row.
-mod fit;
 mod search;
 
 use crate::search::place;

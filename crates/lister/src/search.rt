@@ -1,5 +1,5 @@
 // The search: operations are placed one by one, in the order of their numbers, and the rows are met in increasing order.
-use crate::fit::fits;
+use fit::fits;
 use model::limits::OPERATIONS;
 ghost use Prim.Native.Nat.{_≤_, _<_};
 ghost use lib.ListN.{length};

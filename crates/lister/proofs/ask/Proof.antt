@@ -1,5 +1,4 @@
 -- `lister::ask` meets its contract: what the parts answer, one after another.
-use Prim.Native.Nat.{_-_}
 use borrow.Author.Needs.{needs}
 use mathlib.Core.Path.{ap}
 use Rattle.model.specs.Answers.{refusalOf}

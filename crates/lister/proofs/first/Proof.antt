@@ -1,5 +1,4 @@
 -- `lister::first` meets its contract: it asks after no row.
-use Prim.Native.Nat.{_-_}
 use native.Mathlib.Omega.{arith}
 use borrow.Author.Needs.{needs}
 use Rattle.lister.specs.Asking.{askedOf}

@@ -1,5 +1,4 @@
 -- `lister::give` meets its contract: the output is filled where something was found, and else not touched.
-use Prim.Native.Nat.{_-_}
 use borrow.Author.Needs.{needs}
 use mathlib.Core.Path.{refl}
 use Rattle.laws.specs.Tests.{clash}

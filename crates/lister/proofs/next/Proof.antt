@@ -1,5 +1,4 @@
 -- `lister::next` meets its contract: it asks after the row that is lent.
-use Prim.Native.Nat.{_-_}
 use borrow.Author.Needs.{needs}
 use Rattle.lister.specs.Asking.{askedOf}
 use Rattle.lister.proofs.Asking.{matched-next}

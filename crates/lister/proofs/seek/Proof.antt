@@ -1,5 +1,4 @@
 -- `lister::seek` meets its contract: the search answers for every row, and what it found is given.
-use Prim.Native.Nat.{_-_}
 use native.Mathlib.Omega.{arith}
 use borrow.Author.Needs.{needs}
 use Rattle.lister.proofs.Turns.{sized-own, ready-none}

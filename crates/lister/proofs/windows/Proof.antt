@@ -1,5 +1,4 @@
 -- `lister::windows` meets its contract: refusals 8 and 9 by the bound and the latency, 10 by the product of the windows.
-use Prim.Native.Nat.{_-_}
 use borrow.Author.Needs.{needs}
 use Rattle.model.specs.Graph.{lent}
 use mathlib.Core.List.{[]}

@@ -1,5 +1,4 @@
 -- `search::begin` meets its contract: the greater of the two where the row is tight, else the window's first.
-use Prim.Native.Nat.{_-_}
 use borrow.Author.Needs.{needs}
 use Rattle.laws.specs.Tests.{clash}
 use Rattle.lister.proofs.search.begin.Statement.{statement}

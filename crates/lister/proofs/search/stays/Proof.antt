@@ -1,5 +1,4 @@
 -- `search::stays` meets its contract: a row stays tight only where it was, and the start is the entry of the row asked after.
-use Prim.Native.Nat.{_-_}
 use mathlib.Core.Path.{refl}
 use Rattle.laws.specs.Tests.{clash}
 use Rattle.lister.proofs.search.stays.Statement.{statement}

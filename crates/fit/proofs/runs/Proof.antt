@@ -3,8 +3,8 @@ use native.Mathlib.Omega.{arith}
 use borrow.Author.Needs.{needs}
 use borrow.Author.Tests.{eq-eqb, ne-eqb, le-leb, lt-leb, lt-ltb, le-ltb}
 use Rattle.laws.specs.Tests.{_and_}
-use Rattle.lister.proofs.fit.runs.Statement.{statement}
-use Rattle.lister.proofs.fit.runs.Tie as tie
+use Rattle.fit.proofs.runs.Statement.{statement}
+use Rattle.fit.proofs.runs.Tie as tie
 
 add-if3 : tie.Need-add-if3
 add-if3 c = search needs

@@ -4,10 +4,10 @@ use native.Mathlib.Omega.{arith}
 use borrow.Author.Needs.{needs}
 use borrow.Author.Count.{below-none, below-more}
 use Rattle.laws.specs.Cases.{tells-yes, tells-no}
-use Rattle.lister.specs.Fit.{Calm}
-use Rattle.lister.proofs.Counting.{room-starts, room-own, room-calm}
-use Rattle.lister.proofs.fit.room.Statement.{statement}
-use Rattle.lister.proofs.fit.room.Tie as tie
+use Rattle.fit.specs.Fit.{Calm}
+use Rattle.fit.proofs.Counting.{room-starts, room-own, room-calm}
+use Rattle.fit.proofs.room.Statement.{statement}
+use Rattle.fit.proofs.room.Tie as tie
 
 abbrev Inv-loop : tie.InvT-loop
 Inv-loop busy types units starts i j₀ j = (k : ℕ) → k < j → Calm busy types units starts i k

@@ -13,7 +13,7 @@ use Rattle.laws.specs.Greatest.{Greatest, greatest}
 use Rattle.model.specs.Graph.{Graph}
 use Rattle.model.specs.Use.{runs}
 use Rattle.model.specs.UseLaws.{Runs, runs-or-not, at-last-start}
-use Rattle.lister.specs.Fit.{users, inUse, Calm, Room}
+use Rattle.fit.specs.Fit.{users, inUse, Calm, Room}
 
 -- the operations before i are counted
 pub record Counted (busy types t : List ℕ) (k l placed count i : ℕ) : Type 0 where

@@ -1,9 +1,9 @@
 -- `fit::in_use` meets its contract: the operations before i are counted.
 use Prim.Native.Nat.{_-_}
 use borrow.Author.Needs.{needs}
-use Rattle.lister.proofs.Counting.{Counted, counted-none, counted-step, counted-end}
-use Rattle.lister.proofs.fit.in_use.Statement.{statement}
-use Rattle.lister.proofs.fit.in_use.Tie as tie
+use Rattle.fit.proofs.Counting.{Counted, counted-none, counted-step, counted-end}
+use Rattle.fit.proofs.in_use.Statement.{statement}
+use Rattle.fit.proofs.in_use.Tie as tie
 
 abbrev Inv-loop : tie.InvT-loop
 Inv-loop busy types starts kind step placed count₀ i₀ count i = Counted busy types starts kind step placed count i

@@ -2,8 +2,8 @@
 use native.Mathlib.Omega.{arith}
 use borrow.Author.Needs.{needs}
 use Rattle.laws.specs.Cases.{tells-yes, tells-no}
-use Rattle.lister.proofs.fit.enough.Statement.{statement}
-use Rattle.lister.proofs.fit.enough.Tie as tie
+use Rattle.fit.proofs.enough.Statement.{statement}
+use Rattle.fit.proofs.enough.Tie as tie
 
 shared-slice-read-if1 : tie.Need-shared-slice-read-if1
 shared-slice-read-if1 c = search needs

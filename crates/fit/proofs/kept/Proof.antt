@@ -1,11 +1,10 @@
 -- `fit::kept` meets its contract: an edge with an end past i is kept by default, and `over` tells of any other.
-use Prim.Native.Nat.{_-_}
 use native.Mathlib.Omega.{arith}
 use borrow.Author.Needs.{needs}
 use Rattle.laws.specs.Cases.{tells-yes}
 use Rattle.laws.specs.TellLaws.{tells-as}
-use Rattle.lister.proofs.fit.kept.Statement.{statement}
-use Rattle.lister.proofs.fit.kept.Tie as tie
+use Rattle.fit.proofs.kept.Statement.{statement}
+use Rattle.fit.proofs.kept.Tie as tie
 
 mul-a : tie.Need-mul-a
 mul-a c = search needs

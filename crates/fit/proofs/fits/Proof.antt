@@ -6,9 +6,9 @@ use lib.ListN.{length}
 use borrow.Author.Count.{below-none, below-more}
 use Rattle.laws.specs.Cases.{tells-no}
 use Rattle.laws.specs.TellLaws.{tells-as}
-use Rattle.lister.specs.Fit.{EdgeKept}
-use Rattle.lister.proofs.fit.fits.Statement.{statement}
-use Rattle.lister.proofs.fit.fits.Tie as tie
+use Rattle.fit.specs.Fit.{EdgeKept}
+use Rattle.fit.proofs.fits.Statement.{statement}
+use Rattle.fit.proofs.fits.Tie as tie
 
 abbrev Inv-loop : tie.InvT-loop
 Inv-loop delays types from to units starts i e₀ e = (k : ℕ) → k < e → EdgeKept delays from to starts i k

@@ -2,8 +2,8 @@
 use native.Mathlib.Omega.{arith}
 use borrow.Author.Needs.{needs}
 use Rattle.laws.specs.Cases.{tells-yes, tells-no}
-use Rattle.lister.proofs.fit.within.Statement.{statement}
-use Rattle.lister.proofs.fit.within.Tie as tie
+use Rattle.fit.proofs.within.Statement.{statement}
+use Rattle.fit.proofs.within.Tie as tie
 
 add-if2 : tie.Need-add-if2
 add-if2 c = search needs

@@ -8,7 +8,7 @@ ghost use Rattle.laws.specs.Tests.{_and_};
 ghost use Rattle.laws.specs.Rows.{at};
 ghost use Rattle.laws.specs.Count.{bit};
 ghost use Rattle.model.specs.Graph.{lent, Sound};
-ghost use Rattle.lister.specs.Fit.{EdgeKept, inUse, Calm, Room, Fits};
+ghost use Rattle.fit.specs.Fit.{EdgeKept, inUse, Calm, Room, Fits};
 
 // 1 if an operation of type `own` that starts at `start` and keeps its unit for `busy` steps is of type `kind` and running at `step`, else 0.
 fn runs(own: u8, start: u16, busy: u8, kind: u8, step: u16) -> usize

@@ -1,10 +1,9 @@
 -- `fit::calm` meets its contract: where j is of another type or starts elsewhere nothing is asked, and `enough` tells otherwise.
-use Prim.Native.Nat.{_-_}
 use borrow.Author.Needs.{needs}
 use Rattle.laws.specs.Cases.{tells-yes}
 use Rattle.laws.specs.TellLaws.{tells-as}
-use Rattle.lister.proofs.fit.calm.Statement.{statement}
-use Rattle.lister.proofs.fit.calm.Tie as tie
+use Rattle.fit.proofs.calm.Statement.{statement}
+use Rattle.fit.proofs.calm.Tie as tie
 
 shared-slice-read-kind : tie.Need-shared-slice-read-kind
 shared-slice-read-kind c = search needs

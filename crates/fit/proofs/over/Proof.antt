@@ -2,8 +2,8 @@
 use native.Mathlib.Omega.{arith}
 use borrow.Author.Needs.{needs}
 use Rattle.laws.specs.Cases.{tells-yes, tells-no}
-use Rattle.lister.proofs.fit.over.Statement.{statement}
-use Rattle.lister.proofs.fit.over.Tie as tie
+use Rattle.fit.proofs.over.Statement.{statement}
+use Rattle.fit.proofs.over.Tie as tie
 
 add-if1 : tie.Need-add-if1
 add-if1 c = search needs
