@@ -1,14 +1,23 @@
 -- Where an operation may stand, given those before it: its edges to them are kept, and its type's units are enough while it runs.
 use mathlib.Core.Path.{_≡_}
 use mathlib.Core.List.{List, []}
-use Prim.Native.Nat.{ℕ, _+_, _<_, _≤_}
-use Rattle.laws.specs.Rows.{at}
+use Prim.Native.Nat.{ℕ, _+_, _<_, _≤_, max}
+use lib.ListN.{length}
+use Rattle.laws.specs.Rows.{at, tabulate}
 use Rattle.model.specs.Graph.{Graph, edgesOf}
 use Rattle.model.specs.UseLaws.{runningFirst}
 
--- edge e is kept, if both its ends are at most i
+-- the higher end of edge e: the one that is placed last
+abbrev pub higher : List ℕ → List ℕ → ℕ → ℕ
+higher from to e = max (at from e) (at to e)
+
+-- the higher ends of all edges
+abbrev pub highers : List ℕ → List ℕ → List ℕ
+highers from to = tabulate (higher from to) (length from)
+
+-- edge e is kept, if its higher end is i
 pub record EdgeKept (delays from to t : List ℕ) (i e : ℕ) : Type 0 where
-  pub kept : at from e ≤ i → at to e ≤ i → at t (at from e) + at delays (at from e) ≤ at t (at to e)
+  pub kept : higher from to e ≡ i → at t (at from e) + at delays (at from e) ≤ at t (at to e)
 
 -- what unit use reads of a graph
 abbrev pub users : List ℕ → List ℕ → Graph

@@ -1,6 +1,9 @@
 // Where an operation may stand, given those placed before it: its edges to them are kept, and its type has units enough while it runs.
+use links::LINKS;
+use model::limits::EDGES;
+use model::limits::OPERATIONS;
 ghost use mathlib.Core.Path.{_≡_};
-ghost use Prim.Native.Nat.{_+_, _≤_, _<_};
+ghost use Prim.Native.Nat.{_+_, _≤_, _<_, max};
 ghost use lib.Dec.{eqb, leb, ltb};
 ghost use lib.ListN.{length};
 ghost use Rattle.laws.specs.Cases.{Tells};
@@ -8,7 +11,8 @@ ghost use Rattle.laws.specs.Tests.{_and_};
 ghost use Rattle.laws.specs.Rows.{at};
 ghost use Rattle.laws.specs.Count.{bit};
 ghost use Rattle.model.specs.Graph.{lent, Sound};
-ghost use Rattle.fit.specs.Fit.{EdgeKept, inUse, Calm, Room, Fits};
+ghost use Rattle.links.specs.Linking.{Ends, Linked};
+ghost use Rattle.fit.specs.Fit.{highers, inUse, Calm, Room, Fits};
 
 // 1 if an operation of type `own` that starts at `start` and keeps its unit for `busy` steps is of type `kind` and running at `step`, else 0.
 fn runs(own: u8, start: u16, busy: u8, kind: u8, step: u16) -> usize
@@ -114,39 +118,59 @@ fn over(before: u16, delay: u8, next: u16) -> bool
     false
 }
 
-// Whether edge e is kept, if both its ends are at most i.
-fn kept(delays: &[u8], from: &[u16], to: &[u16], starts: &[u16], i: usize, e: usize) -> bool
-    requires { ⌜ (i < length (now delays)) × (i < length (now starts)) × (e < length (now from)) × (length (now from) ≡ length (now to)) ⌝ }
-    ensures { λ r. ⌜ Tells r (EdgeKept (now (delays .entry)) (now (from .entry)) (now (to .entry)) (now (starts .entry)) i e) ⌝ }
+// Whether edge e is kept.
+fn kept(delays: &[u8], from: &[u16], to: &[u16], starts: &[u16], e: usize) -> bool
+    requires { ⌜ (e < length (now from)) × (e < length (now to)) × (at (now from) e < length (now delays)) × (at (now from) e < length (now starts)) × (at (now to) e < length (now starts)) ⌝ }
+    ensures { λ r. ⌜ Tells r (at (now (starts .entry)) (at (now (from .entry)) e) + at (now (delays .entry)) (at (now (from .entry)) e) ≤ at (now (starts .entry)) (at (now (to .entry)) e)) ⌝ }
 {
     let a = from[e] as usize;
     let b = to[e] as usize;
-    if i < a {
-        return true;
-    }
-    if i < b {
-        return true;
-    }
     over(starts[a], delays[a], starts[b])
 }
 
-// Whether operation i stands where it may, given those placed before it. An operation keeps its unit for as long as its successors wait: its delay.
+// The higher of two ends.
+fn higher(a: u16, b: u16) -> u16
+    ensures { λ r. ⌜ r ≡ max a b ⌝ }
+{
+    if a < b { b } else { a }
+}
+
+// The row of links of the edges by their higher ends.
+pub fn higher_links(from: &[u16], to: &[u16]) -> [u16; LINKS]
+    requires { ⌜ Ends (now from) × Ends (now to) × (length (now from) ≡ length (now to)) ⌝ }
+    ensures { λ r. ⌜ Linked (highers (now (from .entry)) (now (to .entry))) r ⌝ }
+{
+    let mut ends = [0u16; EDGES];
+    let mut e = 0;
+    while e < from.len() {
+        ends[e] = higher(from[e], to[e]);
+        e += 1;
+    }
+    links::link(&ends[0..from.len()])
+}
+
+// Whether operation i stands where it may, given those placed before it. Only the edges whose higher end is i are looked at, along their links:
+// one with both ends below i was looked at when its higher end was placed, and one with an end above i comes later.
+// An operation keeps its unit for as long as its successors wait: its delay.
 pub fn fits(
     delays: &[u8],
     types: &[u8],
     from: &[u16],
     to: &[u16],
+    links: &[u16; LINKS],
     units: &[u8],
     starts: &[u16],
     i: usize,
 ) -> bool
     requires { ⌜ (i < length (now delays)) × (i < length (now starts)) × Sound (lent (now delays) (now types) (length (now units)) (now from) (now to)) ⌝ }
+    requires { ⌜ Linked (highers (now from) (now to)) (now links) ⌝ }
     ensures { λ r. ⌜ Tells r (Fits (lent (now (delays .entry)) (now (types .entry)) (length (now (units .entry))) (now (from .entry)) (now (to .entry))) (now (units .entry)) (now (starts .entry)) i) ⌝ }
 {
-    let mut e = 0;
-    while e < from.len() {
-        if kept(delays, from, to, starts, i, e) {
-            e += 1;
+    let mut edge = links[i] as usize;
+    while edge != 0 {
+        let e = edge - 1;
+        if kept(delays, from, to, starts, e) {
+            edge = links[OPERATIONS + e] as usize;
         } else {
             return false;
         }

@@ -18,6 +18,7 @@ use Rattle.laws.specs.WordLaws.{same-none, same-refl, same-sym, same-trans, sam
 use Rattle.model.specs.Limits as limit
 use Rattle.model.specs.Graph.{Graph, many, Sound}
 use Rattle.model.specs.Use.{runs}
+use Rattle.links.specs.Linking.{Ends}
 use Rattle.fit.specs.Fit.{users, inUse, EdgeKept, Room, Fits}
 use Rattle.lister.specs.Search.{Job, Sized, Placed, Ready, Completes, Searched, Begins, Stays, Tried}
 
@@ -29,7 +30,7 @@ in-use-local busy types k l m {a} {b} s =
 
 edge-local : {delays from to : List ℕ} {i e : ℕ} {a b : List ℕ} → Same (i + 1) a b → EdgeKept delays from to a i e → EdgeKept delays from to b i e
 edge-local {from = from} {to = to} {e = e} s k = record {
-  kept = λ x y. omega (arith, k .kept x y, s .upto (at from e) (omega arith), s .upto (at to e) (omega arith));
+  kept = λ x. omega (arith, k .kept x, s .upto (at from e) (omega arith), s .upto (at to e) (omega arith));
 }
 
 room-local : {busy types units : List ℕ} {i : ℕ} {a b : List ℕ} → Same (i + 1) a b → Room busy types units a i → Room busy types units b i
@@ -303,6 +304,14 @@ module _ {j : Job} {i t : ℕ} {s₀ s : List ℕ} {tight : Bool} (w : Loop j s�
         here = tried .here;
         fits = tried .fits;
       }
+
+-- the ends of a sound graph's edges can be linked
+pub sound-ends : {g : Graph} → Sound g → Ends (g .from) × Ends (g .to) × (length (g .from) ≡ length (g .to))
+sound-ends z = (
+  record { few = z .few-edges; inside = λ e l. omega (arith, z .source-in e l, z .few) },
+  record { few = omega (arith, z .few-edges, z .even-ends); inside = λ e l. omega (arith, z .target-in e (omega (arith, z .even-ends)), z .few) },
+  z .even-ends,
+)
 
 -- a row with an entry for each operation that there can be will do
 pub sized-own : {j : Job} {s : List ℕ} (s′ : List ℕ) → limit.operations ≤ length s′ → Sized j s → Sized j s′

@@ -8,7 +8,6 @@ use native.Mathlib.Nat.{eq-or-lt-of-le, le-of-suc-le-suc}
 use native.Mathlib.Numerals.{add-one}
 use native.Mathlib.Omega.{arith}
 use lib.ListN.{length, take}
-use Rattle.laws.specs.Cases.{le-or-lt}
 use Rattle.laws.specs.Tests.{two, clash}
 use Rattle.laws.specs.Rows.{at, take-at, take-long}
 use Rattle.laws.specs.Sum.{sum}
@@ -16,14 +15,13 @@ use Rattle.laws.specs.Count.{count, count-no, count-start}
 use Rattle.laws.specs.Words.{Same, Before}
 use Rattle.laws.specs.WordLaws.{same-none, same-sym, before-same}
 use Rattle.model.specs.Graph.{Graph, order, many, typeOf, Sound}
-use Rattle.model.specs.Order.{source, target}
 use Rattle.model.specs.Tables.{Earliest, Latest}
 use Rattle.model.specs.Use.{runs, Lawful}
 use Rattle.model.specs.UseLaws.{runs-true, runningFirst}
 use Rattle.model.specs.LawfulLaws.{lawful-in-window}
 use Rattle.model.specs.Listing.{Later, Least, NoneLeft, Gives}
 use Rattle.model.specs.declared.Listed.{Listed}
-use Rattle.fit.specs.Fit.{inUse}
+use Rattle.fit.specs.Fit.{higher, inUse}
 use Rattle.lister.specs.Search.{Job, Placed, Completes, Searched}
 use Rattle.lister.specs.Asking.{askedOf, Given, Sought}
 use Rattle.lister.proofs.Turns.{placed-local}
@@ -52,7 +50,7 @@ module _ (j : Job) (sound : Sound (j .graph)) (bound : ℕ) (early : Earliest (o
         low = window .from;
         high = window .to;
         fits = λ i b. record {
-          edges = λ e l. record { kept = λ from to. h .keeps .edges e l };
+          edges = λ e l. record { kept = λ own. h .keeps .edges e l };
           room = record {
             enough = λ l x y.
                 let k = typeOf (j .graph) i in
@@ -85,17 +83,14 @@ module _ (j : Job) (sound : Sound (j .graph)) (bound : ℕ) (early : Earliest (o
           omega (arith, room, in-use-is (j .graph) t (typeOf (j .graph) m) l (m + 1)) in
           rw add-one at (subst (λ (i : ℕ). runningFirst (j .graph) t (m + 1) i l ≤ at (j .units) i) (r .kind) enough)
 
-  -- such a row is lawful: its edges were looked at when their later end was placed
+  -- such a row is lawful: each edge was looked at when its higher end was placed
   pub placed-lawful : (t : List ℕ) → length t ≡ many (j .graph) → Placed j (many (j .graph)) t → Lawful (j .graph) (j .units) bound t
   placed-lawful t long p = record {
     long = long;
     keeps = record {
       from-one = λ i b. omega (arith, early .keeps .from-one i b, p .low i b);
       edges = λ e b.
-          ⊎-elim
-          (λ h. p .fits (target (order (j .graph)) e) (sound .target-in e b) .edges e b .kept h (omega arith))
-          (λ h. p .fits (source (order (j .graph)) e) (sound .source-in e b) .edges e b .kept (omega arith) (omega arith))
-          (le-or-lt (source (order (j .graph)) e) (target (order (j .graph)) e));
+          p .fits (higher (j .graph .from) (j .graph .to) e) (omega (arith, sound .source-in e b, sound .target-in e b)) .edges e b .kept refl;
     };
     within = record { ends = λ i b. omega (arith, late .within .ends i b, p .high i b) };
     room = λ k l b. roomy t p k l (many (j .graph)) (omega arith);

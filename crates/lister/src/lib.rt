@@ -142,12 +142,14 @@ fn seek(
     requires { ⌜ Sized (job (now delays) (now types) (now from) (now to) (now units) (now early) (now late) (now after)) (now out) ⌝ }
     ensures { λ r. ⌜ Sought (job (now (delays .entry)) (now (types .entry)) (now (from .entry)) (now (to .entry)) (now (units .entry)) (now (early .entry)) (now (late .entry)) (now (after .entry))) tight (now (out .entry)) r (now (out .exit)) ⌝ }
 {
+    let links = fit::higher_links(from, to);
     let mut row = [0u16; OPERATIONS];
     let found = place(
         delays,
         types,
         from,
         to,
+        &links,
         units,
         early,
         late,

@@ -1,10 +1,13 @@
 // The search: operations are placed one by one, in the order of their numbers, and the rows are met in increasing order.
 use fit::fits;
+use links::LINKS;
 use model::limits::OPERATIONS;
 ghost use Prim.Native.Nat.{_≤_, _<_};
 ghost use lib.ListN.{length};
 ghost use Rattle.model.specs.Limits as limit;
 ghost use Rattle.model.specs.Graph.{lent, Sound};
+ghost use Rattle.links.specs.Linking.{Linked};
+ghost use Rattle.fit.specs.Fit.{highers};
 ghost use Rattle.lister.specs.Search.{job, Ready, Searched, Begins, Stays, Tried};
 
 // The first start to try: the window's first, and not before the row asked after while the row is `tight`, as that row so far.
@@ -39,6 +42,7 @@ fn fitting(
     types: &[u8],
     from: &[u16],
     to: &[u16],
+    links: &[u16; LINKS],
     units: &[u8],
     starts: &mut [u16],
     i: usize,
@@ -46,12 +50,13 @@ fn fitting(
     last: u16,
 ) -> u16
     requires { ⌜ (i < length (now delays)) × (i < length (now starts)) × Sound (lent (now delays) (now types) (length (now units)) (now from) (now to)) × (last ≤ limit.steps) ⌝ }
+    requires { ⌜ Linked (highers (now from) (now to)) (now links) ⌝ }
     ensures { λ r. ⌜ Tried (lent (now (delays .entry)) (now (types .entry)) (length (now (units .entry))) (now (from .entry)) (now (to .entry))) (now (units .entry)) (now (starts .entry)) i start last (now (starts .exit)) r ⌝ }
 {
     let mut step = start;
     while step <= last {
         starts[i] = step;
-        if fits(delays, types, from, to, units, starts, i) {
+        if fits(delays, types, from, to, links, units, starts, i) {
             return step;
         }
         step += 1;
@@ -66,6 +71,7 @@ pub fn place(
     types: &[u8],
     from: &[u16],
     to: &[u16],
+    links: &[u16; LINKS],
     units: &[u8],
     early: &[u16; OPERATIONS],
     late: &[u16; OPERATIONS],
@@ -75,22 +81,24 @@ pub fn place(
     tight: bool,
 ) -> bool
     requires { ⌜ Ready (job (now delays) (now types) (now from) (now to) (now units) (now early) (now late) (now after)) (now starts) i tight ⌝ }
+    requires { ⌜ Linked (highers (now from) (now to)) (now links) ⌝ }
     ensures { λ r. ⌜ Searched (job (now (delays .entry)) (now (types .entry)) (now (from .entry)) (now (to .entry)) (now (units .entry)) (now (early .entry)) (now (late .entry)) (now (after .entry))) (now (starts .entry)) i tight (now (starts .exit)) r ⌝ }
 {
     if i == delays.len() {
         return !tight;
     }
-    let last = late[i];
+    let end = late[i];
     let asked = after[i];
     let start = begin(tight, early[i], asked);
-    let mut t = fitting(delays, types, from, to, units, starts, i, start, last);
-    while t <= last {
+    let mut t = fitting(delays, types, from, to, links, units, starts, i, start, end);
+    while t <= end {
         let deeper = stays(tight, t, asked);
         if place(
             delays,
             types,
             from,
             to,
+            links,
             units,
             early,
             late,
@@ -101,7 +109,7 @@ pub fn place(
         ) {
             return true;
         }
-        t = fitting(delays, types, from, to, units, starts, i, t + 1, last);
+        t = fitting(delays, types, from, to, links, units, starts, i, t + 1, end);
     }
     false
 }

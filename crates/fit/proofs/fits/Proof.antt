@@ -1,44 +1,107 @@
--- `fit::fits` meets its contract: every edge passed is kept, and `room` tells of the units.
-use Prim.Native.Nat.{ℕ, _-_, _<_}
+-- `fit::fits` meets its contract. The loop keeps `Seen`: the edges past the link whose higher end is i are kept. The link falls, and `room` tells of the units.
 use native.Mathlib.Omega.{arith}
 use borrow.Author.Needs.{needs}
-use lib.ListN.{length}
-use borrow.Author.Count.{below-none, below-more}
 use Rattle.laws.specs.Cases.{tells-no}
 use Rattle.laws.specs.TellLaws.{tells-as}
-use Rattle.fit.specs.Fit.{EdgeKept}
+use Rattle.fit.proofs.Ends.{highers-long, Seen, seen-none, seen-inside, seen-own, seen-before, seen-step, seen-broken, seen-end}
 use Rattle.fit.proofs.fits.Statement.{statement}
 use Rattle.fit.proofs.fits.Tie as tie
 
 abbrev Inv-loop : tie.InvT-loop
-Inv-loop delays types from to units starts i e₀ e = (k : ℕ) → k < e → EdgeKept delays from to starts i k
+Inv-loop delays types from to links units starts i edge₀ edge = Seen delays from to starts i edge
 
 abbrev μ-loop : tie.MeasureT-loop
-μ-loop delays types from to units starts i e₀ e = length from - e
+μ-loop delays types from to links units starts i edge₀ edge = edge
+
+mul-edge : tie.Need-mul-edge Inv-loop μ-loop
+mul-edge c = search needs
+
+element-copy-out-edge : tie.Need-element-copy-out-edge Inv-loop μ-loop
+element-copy-out-edge c = search needs
+
+cast-edge : tie.Need-cast-edge Inv-loop μ-loop
+cast-edge c =
+    let start = c .before .before .before .before .before .before .before in
+    let last = start .pre .1 .lasts (start .args .i) (omega (arith, start .pre .0 .2 .few)) in
+    omega (arith, last .within, highers-long (start .args .from .now) (start .args .to .now), start .pre .0 .2 .few-edges)
 
 loop-holds : tie.Need-loop-holds Inv-loop μ-loop
-loop-holds c = below-none _
+loop-holds c =
+    let start = c .before .before .before .before .before .before .before in
+    seen-none (start .pre .1 .lasts (start .args .i) (omega (arith, start .pre .0 .2 .few)))
+
+sub-e : tie.Need-sub-e Inv-loop μ-loop
+sub-e c = search needs
 
 kept-requires : tie.Need-kept-requires Inv-loop μ-loop
-kept-requires c κs = (c .before .before .before .before .before .before .before .before .pre .0, c .before .before .before .before .before .before .before .before .pre .1, c .loop-test .taken, c .before .before .before .before .before .before .before .before .pre .2 .even-ends)
+kept-requires c κs =
+    let start = c .before .before .before .before .before .before .before .before .before in
+    let here = c .before .loop in
+    let inside = seen-inside (here .inv) (c .loop-test .taken) in
+    let own = seen-own (here .inv) (c .loop-test .taken) in (
+      inside,
+      omega (arith, start .pre .0 .2 .even-ends),
+      omega (arith, own, start .pre .0 .0),
+      omega (arith, own, start .pre .0 .1),
+      omega (arith, own, start .pre .0 .1),
+    )
 
-add-e : tie.Need-add-e Inv-loop μ-loop
-add-e c = search needs
+add-edge : tie.Need-add-edge Inv-loop μ-loop
+add-edge c =
+    let start = c .before .before .before .before .before .before .before .before .before .before .before in
+    let here = c .before .before .before .loop in
+    omega (arith, here .inv .within, start .pre .0 .2 .few-edges)
+
+mul-edge-2 : tie.Need-mul-edge-2 Inv-loop μ-loop
+mul-edge-2 c =
+    let start = c .before .before .before .before .before .before .before .before .before .before .before in
+    let here = c .before .before .before .loop in
+    omega (arith, here .inv .within, start .pre .0 .2 .few-edges)
+
+element-copy-out-edge-2 : tie.Need-element-copy-out-edge-2 Inv-loop μ-loop
+element-copy-out-edge-2 c =
+    let start = c .before .before .before .before .before .before .before .before .before .before .before in
+    let here = c .before .before .before .loop in
+    omega (arith, here .inv .within, start .pre .0 .2 .few-edges)
+
+cast-edge-2 : tie.Need-cast-edge-2 Inv-loop μ-loop
+cast-edge-2 c =
+    let start = c .before .before .before .before .before .before .before .before .before .before .before .before in
+    let here = c .before .before .before .before .loop in
+    let next = seen-before (here .inv) (c .before .before .before .loop-test .taken) (start .pre .1) in
+    omega (arith, next .within, here .inv .within, start .pre .0 .2 .few-edges)
 
 loop-less : tie.Need-loop-less Inv-loop μ-loop
-loop-less c = search needs
+loop-less c =
+    let start = c .before .before .before .before .before .before .before .before .before .before .before .before in
+    let here = c .before .before .before .before .loop in
+    let next = seen-before (here .inv) (c .before .before .before .loop-test .taken) (start .pre .1) in
+    omega (arith, next .within)
 
 loop-again : tie.Need-loop-again Inv-loop μ-loop
-loop-again c = below-more _ _ (c .before .before .before .loop .inv) (c .before .kept .ensures .yes (c .if1 .taken))
+loop-again c =
+    let start = c .before .before .before .before .before .before .before .before .before .before .before .before in
+    let here = c .before .before .before .before .loop in
+    let next = seen-before (here .inv) (c .before .before .before .loop-test .taken) (start .pre .1) in
+    seen-step (here .inv) (c .before .before .before .loop-test .taken) (c .before .before .kept .ensures .yes (c .before .if1 .taken)) next
 
 returns : tie.Need-returns Inv-loop μ-loop
-returns c = tells-no (λ f. c .before .kept .ensures .none (c .if1 .left) (f .edges _ (c .before .before .loop-test .taken)))
+returns c =
+    tells-no (λ f. seen-broken (c .before .before .before .loop .inv) (c .before .before .loop-test .taken) (c .before .kept .ensures .none (c .if1 .left)) (f .edges))
 
 room-requires : tie.Need-room-requires Inv-loop μ-loop
-room-requires c κs = (c .before .before .before .before .before .before .before .before .pre .0, omega (arith, c .before .before .before .before .before .before .before .before .pre .0, c .before .before .before .before .before .before .before .before .pre .2 .even-types), c .before .before .before .before .before .before .before .before .pre .1, c .before .before .before .before .before .before .before .before .pre .2 .type-in _ (c .before .before .before .before .before .before .before .before .pre .0), c .before .before .before .before .before .before .before .before .pre .2 .delay-from _ (c .before .before .before .before .before .before .before .before .pre .0))
+room-requires c κs =
+    let start = c .before .before .before .before .before .before .before .before .before in (
+      start .pre .0 .0,
+      omega (arith, start .pre .0 .0, start .pre .0 .2 .even-types),
+      start .pre .0 .1,
+      start .pre .0 .2 .type-in _ (start .pre .0 .0),
+      start .pre .0 .2 .delay-from _ (start .pre .0 .0),
+    )
 
 returns-2 : tie.Need-returns-2 Inv-loop μ-loop
-returns-2 c = tells-as _ (λ r. record { edges = λ e l. c .before .before .loop .inv e (omega (arith, c .before .loop-test .left)); room = r }) (λ f. f .room) (c .room .ensures)
+returns-2 c =
+    tells-as _ (λ r. record { edges = seen-end (c .before .before .loop .inv) (c .before .loop-test .left); room = r }) (λ f. f .room) (c .room .ensures)
 
 pub fits-spec : {M : Type 1} → statement M
 fits-spec =
@@ -46,9 +109,16 @@ fits-spec =
     (tie.spec
     Inv-loop
     μ-loop
+    mul-edge
+    element-copy-out-edge
+    cast-edge
     loop-holds
+    sub-e
     kept-requires
-    add-e
+    add-edge
+    mul-edge-2
+    element-copy-out-edge-2
+    cast-edge-2
     loop-less
     loop-again
     returns

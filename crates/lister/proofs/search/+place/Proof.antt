@@ -19,21 +19,21 @@ use Rattle.lister.proofs.search.+place.{statement}
 use Rattle.lister.proofs.search.+place.Tie.{close}
 
 -- how many operations are unplaced
-abbrev μ-place : Measures 9 place-kinds.ps ℕ
-μ-place κs a = length (now (a .0)) - a .1 .1 .1 .1 .1 .1 .1 .1 .1 .0
+abbrev μ-place : Measures 10 place-kinds.ps ℕ
+μ-place κs a = length (now (a .0)) - a .1 .1 .1 .1 .1 .1 .1 .1 .1 .1 .0
 
-abbrev place-at : ℕ → In 9 place-kinds.ps
-place-at t = and 9 place-kinds.ps (is 9 place-kinds.ps μ-place t) place.Pre
+abbrev place-at : ℕ → In 10 place-kinds.ps
+place-at t = and 10 place-kinds.ps (is 10 place-kinds.ps μ-place t) place.Pre
 
-abbrev place-below : ℕ → In 9 place-kinds.ps
-place-below t = and 9 place-kinds.ps (falls 9 place-kinds.ps _<_ μ-place t) place.Pre
+abbrev place-below : ℕ → In 10 place-kinds.ps
+place-below t = and 10 place-kinds.ps (falls 10 place-kinds.ps _<_ μ-place t) place.Pre
 
 abbrev Inv-loop : place-lts.InvT-loop
-Inv-loop delays types from to units early late after starts₀ i tight last asked start t₀ starts t =
+Inv-loop delays types from to links units early late after starts₀ i tight end asked start t₀ starts t =
     Loop (job delays types from to units early late after) starts₀ i tight starts t
 
 abbrev μ-loop : place-lts.MeasureT-loop
-μ-loop delays types from to units early late after starts₀ i tight last asked start t₀ starts t = last + 1 - t
+μ-loop delays types from to links units early late after starts₀ i tight end asked start t₀ starts t = end + 1 - t
 
 -- what the functions called ask and tell, and `place` of fewer unplaced
 abbrev claims : ℕ → place-lts.Claims
@@ -50,34 +50,34 @@ claims t = (
 
 module _ (t : ℕ) where
   returns : place-lts.Need-returns (claims t) (place-at t) place.Post Inv-loop μ-loop
-  returns c = done _ (c .if1 .taken) (c .before .before .before .before .before .before .before .before .pre .1)
+  returns c = done _ (c .if1 .taken) (c .before .before .before .before .before .before .before .before .pre .1 .0)
 
-  mul-last : place-lts.Need-mul-last (claims t) (place-at t) place.Post Inv-loop μ-loop
-  mul-last c = omega (arith, c .before .before .before .before .before .before .before .before .pre .1 .inside, c .before .before .before .before .before .before .before .before .pre .1 .sized, c .before .before .before .before .before .before .before .before .pre .1 .sized .sound .few, c .if1 .left)
+  mul-end : place-lts.Need-mul-end (claims t) (place-at t) place.Post Inv-loop μ-loop
+  mul-end c = omega (arith, c .before .before .before .before .before .before .before .before .pre .1 .0 .inside, c .before .before .before .before .before .before .before .before .pre .1 .0 .sized, c .before .before .before .before .before .before .before .before .pre .1 .0 .sized .sound .few, c .if1 .left)
 
-  element-copy-out-last : place-lts.Need-element-copy-out-last (claims t) (place-at t) place.Post Inv-loop μ-loop
-  element-copy-out-last c = omega (arith, c .before .before .before .before .before .before .before .before .pre .1 .inside, c .before .before .before .before .before .before .before .before .pre .1 .sized, c .before .before .before .before .before .before .before .before .pre .1 .sized .sound .few, c .if1 .left)
+  element-copy-out-end : place-lts.Need-element-copy-out-end (claims t) (place-at t) place.Post Inv-loop μ-loop
+  element-copy-out-end c = omega (arith, c .before .before .before .before .before .before .before .before .pre .1 .0 .inside, c .before .before .before .before .before .before .before .before .pre .1 .0 .sized, c .before .before .before .before .before .before .before .before .pre .1 .0 .sized .sound .few, c .if1 .left)
 
   mul-asked : place-lts.Need-mul-asked (claims t) (place-at t) place.Post Inv-loop μ-loop
-  mul-asked c = omega (arith, c .before .before .before .before .before .before .before .before .before .pre .1 .inside, c .before .before .before .before .before .before .before .before .before .pre .1 .sized, c .before .if1 .left)
+  mul-asked c = omega (arith, c .before .before .before .before .before .before .before .before .before .pre .1 .0 .inside, c .before .before .before .before .before .before .before .before .before .pre .1 .0 .sized, c .before .if1 .left)
 
   shared-slice-read-asked : place-lts.Need-shared-slice-read-asked (claims t) (place-at t) place.Post Inv-loop μ-loop
-  shared-slice-read-asked c = omega (arith, c .before .before .before .before .before .before .before .before .before .before .pre .1 .inside, c .before .before .before .before .before .before .before .before .before .before .pre .1 .sized, c .before .before .if1 .left)
+  shared-slice-read-asked c = omega (arith, c .before .before .before .before .before .before .before .before .before .before .pre .1 .0 .inside, c .before .before .before .before .before .before .before .before .before .before .pre .1 .0 .sized, c .before .before .if1 .left)
 
   mul-begin : place-lts.Need-mul-begin (claims t) (place-at t) place.Post Inv-loop μ-loop
-  mul-begin c = omega (arith, c .before .before .before .before .before .before .before .before .before .before .pre .1 .inside, c .before .before .before .before .before .before .before .before .before .before .pre .1 .sized, c .before .before .before .before .before .before .before .before .before .before .pre .1 .sized .sound .few, c .before .before .if1 .left)
+  mul-begin c = omega (arith, c .before .before .before .before .before .before .before .before .before .before .pre .1 .0 .inside, c .before .before .before .before .before .before .before .before .before .before .pre .1 .0 .sized, c .before .before .before .before .before .before .before .before .before .before .pre .1 .0 .sized .sound .few, c .before .before .if1 .left)
 
   element-copy-out-begin : place-lts.Need-element-copy-out-begin (claims t) (place-at t) place.Post Inv-loop μ-loop
-  element-copy-out-begin c = omega (arith, c .before .before .before .before .before .before .before .before .before .before .pre .1 .inside, c .before .before .before .before .before .before .before .before .before .before .pre .1 .sized, c .before .before .before .before .before .before .before .before .before .before .pre .1 .sized .sound .few, c .before .before .if1 .left)
+  element-copy-out-begin c = omega (arith, c .before .before .before .before .before .before .before .before .before .before .pre .1 .0 .inside, c .before .before .before .before .before .before .before .before .before .before .pre .1 .0 .sized, c .before .before .before .before .before .before .before .before .before .before .pre .1 .0 .sized .sound .few, c .before .before .if1 .left)
 
   begin-requires : place-lts.Need-begin-requires (claims t) (place-at t) place.Post Inv-loop μ-loop
   begin-requires c κs = search needs
 
   fitting-requires : place-lts.Need-fitting-requires (claims t) (place-at t) place.Post Inv-loop μ-loop
-  fitting-requires c κs = ready-fits (omega (arith, c .before .before .before .before .before .before .before .before .before .before .before .before .before .pre .1 .inside, c .before .before .before .before .before .if1 .left)) (c .before .before .before .before .before .before .before .before .before .before .before .before .before .pre .1)
+  fitting-requires c κs = (ready-fits (omega (arith, c .before .before .before .before .before .before .before .before .before .before .before .before .before .pre .1 .0 .inside, c .before .before .before .before .before .if1 .left)) (c .before .before .before .before .before .before .before .before .before .before .before .before .before .pre .1 .0), c .before .before .before .before .before .before .before .before .before .before .before .before .before .pre .1 .1)
 
   loop-holds : place-lts.Need-loop-holds (claims t) (place-at t) place.Post Inv-loop μ-loop
-  loop-holds c = loop-begins (omega (arith, c .before .before .before .before .before .before .before .before .before .before .before .before .before .before .before .before .pre .1 .inside, c .before .before .before .before .before .before .before .before .if1 .left)) (c .before .before .before .before .before .before .before .before .before .before .before .before .before .before .before .before .pre .1) (c .before .before .before .before .begin .ensures) (c .before .before .fitting .ensures) (c .before .before .fitting .kept .1 .1 .1 .1 .1 .0)
+  loop-holds c = loop-begins (omega (arith, c .before .before .before .before .before .before .before .before .before .before .before .before .before .before .before .before .pre .1 .0 .inside, c .before .before .before .before .before .before .before .before .if1 .left)) (c .before .before .before .before .before .before .before .before .before .before .before .before .before .before .before .before .pre .1 .0) (c .before .before .before .before .begin .ensures) (c .before .before .fitting .ensures) (c .before .before .fitting .kept .1 .1 .1 .1 .1 .1 .0)
 
   stays-requires : place-lts.Need-stays-requires (claims t) (place-at t) place.Post Inv-loop μ-loop
   stays-requires c κs = search needs
@@ -86,10 +86,10 @@ module _ (t : ℕ) where
   add-place c = search needs
 
   place-requires : place-lts.Need-place-requires (claims t) (place-at t) place.Post Inv-loop μ-loop
-  place-requires c κs = (omega (arith, c .before .before .before .before .before .before .before .before .before .before .before .before .before .before .before .before .before .before .before .before .pre .0, c .before .before .before .loop .inv .inside), loop-ready (c .before .before .before .loop .inv) (c .before .before .loop-test .taken) (c .before .stays .ensures))
+  place-requires c κs = (omega (arith, c .before .before .before .before .before .before .before .before .before .before .before .before .before .before .before .before .before .before .before .before .pre .0, c .before .before .before .loop .inv .inside), (loop-ready (c .before .before .before .loop .inv) (c .before .before .loop-test .taken) (c .before .stays .ensures), c .before .before .before .before .before .before .before .before .before .before .before .before .before .before .before .before .before .before .before .before .pre .1 .1))
 
   same-length : place-lts.Need-same-length (claims t) (place-at t) place.Post Inv-loop μ-loop
-  same-length c = c .before .before .before .place .kept .1 .1 .1 .1 .1 .1 .1 .1 .0 ∙ c .before .before .before .before .before .before .before .loop .inv .long ∙ c .before .before .before .before .before .before .before .before .before .before .fitting .kept .1 .1 .1 .1 .1 .0
+  same-length c = c .before .before .before .place .kept .1 .1 .1 .1 .1 .1 .1 .1 .1 .0 ∙ c .before .before .before .before .before .before .before .loop .inv .long ∙ c .before .before .before .before .before .before .before .before .before .before .fitting .kept .1 .1 .1 .1 .1 .1 .0
 
   returns-2 : place-lts.Need-returns-2 (claims t) (place-at t) place.Post Inv-loop μ-loop
   returns-2 c = searched-as (c .before .before .before .before .before .before .before .before .before .before .fitting .ensures .kept) (loop-found (c .before .before .before .before .before .before .before .loop .inv) (c .before .before .before .before .before .before .loop-test .taken) (c .before .before .before .before .before .stays .ensures) (c .before .before .before .place .ensures) (c .if2 .taken))
@@ -98,16 +98,16 @@ module _ (t : ℕ) where
   add-fitting c = omega (arith, c .before .before .before .before .before .before .before .loop-test .taken, c .before .before .before .before .before .before .before .before .loop .inv .ready .sized .few _ (c .before .before .before .before .before .before .before .before .loop .inv .inside))
 
   fitting-requires-2 : place-lts.Need-fitting-requires-2 (claims t) (place-at t) place.Post Inv-loop μ-loop
-  fitting-requires-2 c κs = loop-fits (c .before .before .before .before .before .before .before .before .loop .inv) (c .before .before .before .before .place .last .1 .1 .1 .1 .1 .1 .1 .1 .0) (c .before .before .before .before .place .kept .1 .1 .1 .1 .1 .1 .1 .1 .0)
+  fitting-requires-2 c κs = (loop-fits (c .before .before .before .before .before .before .before .before .loop .inv) (c .before .before .before .before .place .last .1 .1 .1 .1 .1 .1 .1 .1 .1 .0) (c .before .before .before .before .place .kept .1 .1 .1 .1 .1 .1 .1 .1 .1 .0), c .before .before .before .before .before .before .before .before .before .before .before .before .before .before .before .before .before .before .before .before .before .before .before .before .before .pre .1 .1)
 
   loop-less : place-lts.Need-loop-less (claims t) (place-at t) place.Post Inv-loop μ-loop
   loop-less c = omega (arith, c .before .before .before .before .before .before .before .before .before .before .loop-test .taken, c .before .before .fitting2 .ensures .from)
 
   loop-again : place-lts.Need-loop-again (claims t) (place-at t) place.Post Inv-loop μ-loop
-  loop-again c = loop-more (c .before .before .before .before .before .before .before .before .before .before .before .loop .inv) (c .before .before .before .before .before .before .before .before .before .before .loop-test .taken) (c .before .before .before .before .before .before .before .before .before .stays .ensures) (c .before .before .before .before .before .before .before .place .ensures) (c .before .before .before .before .if2 .left) (c .before .before .before .before .before .before .before .place .kept .1 .1 .1 .1 .1 .1 .1 .1 .0) (c .before .before .fitting2 .ensures) (c .before .before .fitting2 .kept .1 .1 .1 .1 .1 .0)
+  loop-again c = loop-more (c .before .before .before .before .before .before .before .before .before .before .before .loop .inv) (c .before .before .before .before .before .before .before .before .before .before .loop-test .taken) (c .before .before .before .before .before .before .before .before .before .stays .ensures) (c .before .before .before .before .before .before .before .place .ensures) (c .before .before .before .before .if2 .left) (c .before .before .before .before .before .before .before .place .kept .1 .1 .1 .1 .1 .1 .1 .1 .1 .0) (c .before .before .fitting2 .ensures) (c .before .before .fitting2 .kept .1 .1 .1 .1 .1 .1 .0)
 
   same-length-2 : place-lts.Need-same-length-2 (claims t) (place-at t) place.Post Inv-loop μ-loop
-  same-length-2 c = c .before .loop .inv .long ∙ c .before .before .before .before .fitting .kept .1 .1 .1 .1 .1 .0
+  same-length-2 c = c .before .loop .inv .long ∙ c .before .before .before .before .fitting .kept .1 .1 .1 .1 .1 .1 .0
 
   returns-3 : place-lts.Need-returns-3 (claims t) (place-at t) place.Post Inv-loop μ-loop
   returns-3 c = searched-as (c .before .before .before .before .fitting .ensures .kept) (loop-out (c .before .loop .inv) (c .loop-test .left))
@@ -119,8 +119,8 @@ pub +place-spec : {M : Type 1} → statement M
     Inv-loop
     μ-loop
     (returns t)
-    (mul-last t)
-    (element-copy-out-last t)
+    (mul-end t)
+    (element-copy-out-end t)
     (mul-asked t)
     (shared-slice-read-asked t)
     (mul-begin t)
