@@ -1,14 +1,16 @@
--- `fit::fits` meets its contract. The loop keeps `Seen`: the edges past the link whose higher end is i are kept. The link falls, and `room` tells of the units.
+-- The walk keeps `Passed`: the edges behind it whose higher end is i are kept. The link falls, and `room` tells of the units.
 use native.Mathlib.Omega.{arith}
 use borrow.Author.Needs.{needs}
 use Rattle.laws.specs.Cases.{tells-no}
 use Rattle.laws.specs.TellLaws.{tells-as}
-use Rattle.fit.proofs.Ends.{highers-long, Seen, seen-none, seen-inside, seen-own, seen-before, seen-step, seen-broken, seen-end}
+use Rattle.links.specs.Walking.{Passed, operation-low, passed-none, passed-falls, passed-step}
+use Rattle.fit.specs.Fit.{highers}
+use Rattle.fit.proofs.Ends.{highers-long, Kept, all-kept, link-low, edge-inside, edge-own, not-kept}
 use Rattle.fit.proofs.fits.Statement.{statement}
 use Rattle.fit.proofs.fits.Tie as tie
 
 abbrev Inv-loop : tie.InvT-loop
-Inv-loop delays types from to links units starts i edge₀ edge = Seen delays from to starts i edge
+Inv-loop delays types from to links units starts i edge₀ edge = Passed (highers from to) i (Kept delays from to starts) edge
 
 abbrev μ-loop : tie.MeasureT-loop
 μ-loop delays types from to links units starts i edge₀ edge = edge
@@ -22,13 +24,13 @@ element-copy-out-edge c = search needs
 cast-edge : tie.Need-cast-edge Inv-loop μ-loop
 cast-edge c =
     let start = c .before .before .before .before .before .before .before in
-    let last = start .pre .1 .lasts (start .args .i) (omega (arith, start .pre .0 .2 .few)) in
-    omega (arith, last .within, highers-long (start .args .from .now) (start .args .to .now), start .pre .0 .2 .few-edges)
+    let last = operation-low (start .pre .1) (start .args .i) (omega (arith, start .pre .0 .2 .few)) in
+    omega (arith, last, highers-long (start .args .from .now) (start .args .to .now), start .pre .0 .2 .few-edges)
 
 loop-holds : tie.Need-loop-holds Inv-loop μ-loop
 loop-holds c =
     let start = c .before .before .before .before .before .before .before in
-    seen-none (start .pre .1 .lasts (start .args .i) (omega (arith, start .pre .0 .2 .few)))
+    passed-none (start .pre .1) (start .args .i) (omega (arith, start .pre .0 .2 .few))
 
 sub-e : tie.Need-sub-e Inv-loop μ-loop
 sub-e c = search needs
@@ -37,8 +39,8 @@ kept-requires : tie.Need-kept-requires Inv-loop μ-loop
 kept-requires c κs =
     let start = c .before .before .before .before .before .before .before .before .before in
     let here = c .before .loop in
-    let inside = seen-inside (here .inv) (c .loop-test .taken) in
-    let own = seen-own (here .inv) (c .loop-test .taken) in (
+    let inside = edge-inside (here .inv) (c .loop-test .taken) in
+    let own = edge-own (here .inv) (c .loop-test .taken) in (
       inside,
       omega (arith, start .pre .0 .2 .even-ends),
       omega (arith, own, start .pre .0 .0),
@@ -50,44 +52,37 @@ add-edge : tie.Need-add-edge Inv-loop μ-loop
 add-edge c =
     let start = c .before .before .before .before .before .before .before .before .before .before .before in
     let here = c .before .before .before .loop in
-    omega (arith, here .inv .within, start .pre .0 .2 .few-edges)
+    omega (arith, link-low (here .inv), start .pre .0 .2 .few-edges)
 
 mul-edge-2 : tie.Need-mul-edge-2 Inv-loop μ-loop
 mul-edge-2 c =
     let start = c .before .before .before .before .before .before .before .before .before .before .before in
     let here = c .before .before .before .loop in
-    omega (arith, here .inv .within, start .pre .0 .2 .few-edges)
+    omega (arith, link-low (here .inv), start .pre .0 .2 .few-edges)
 
 element-copy-out-edge-2 : tie.Need-element-copy-out-edge-2 Inv-loop μ-loop
 element-copy-out-edge-2 c =
     let start = c .before .before .before .before .before .before .before .before .before .before .before in
     let here = c .before .before .before .loop in
-    omega (arith, here .inv .within, start .pre .0 .2 .few-edges)
+    omega (arith, link-low (here .inv), start .pre .0 .2 .few-edges)
 
 cast-edge-2 : tie.Need-cast-edge-2 Inv-loop μ-loop
 cast-edge-2 c =
     let start = c .before .before .before .before .before .before .before .before .before .before .before .before in
     let here = c .before .before .before .before .loop in
-    let next = seen-before (here .inv) (c .before .before .before .loop-test .taken) (start .pre .1) in
-    omega (arith, next .within, here .inv .within, start .pre .0 .2 .few-edges)
+    omega (arith, passed-falls (here .inv) (c .before .before .before .loop-test .taken) (start .pre .1), link-low (here .inv), start .pre .0 .2 .few-edges)
 
 loop-less : tie.Need-loop-less Inv-loop μ-loop
-loop-less c =
-    let start = c .before .before .before .before .before .before .before .before .before .before .before .before in
-    let here = c .before .before .before .before .loop in
-    let next = seen-before (here .inv) (c .before .before .before .loop-test .taken) (start .pre .1) in
-    omega (arith, next .within)
+loop-less c = passed-falls (c .before .before .before .before .loop .inv) (c .before .before .before .loop-test .taken) (c .before .before .before .before .before .before .before .before .before .before .before .before .pre .1)
 
 loop-again : tie.Need-loop-again Inv-loop μ-loop
 loop-again c =
-    let start = c .before .before .before .before .before .before .before .before .before .before .before .before in
-    let here = c .before .before .before .before .loop in
-    let next = seen-before (here .inv) (c .before .before .before .loop-test .taken) (start .pre .1) in
-    seen-step (here .inv) (c .before .before .before .loop-test .taken) (c .before .before .kept .ensures .yes (c .before .if1 .taken)) next
+    passed-step (c .before .before .before .before .loop .inv) (c .before .before .before .loop-test .taken) (c .before .before .before .before .before .before .before .before .before .before .before .before .pre .1)
+    (record { kept = c .before .before .kept .ensures .yes (c .before .if1 .taken) })
 
 returns : tie.Need-returns Inv-loop μ-loop
 returns c =
-    tells-no (λ f. seen-broken (c .before .before .before .loop .inv) (c .before .before .loop-test .taken) (c .before .kept .ensures .none (c .if1 .left)) (f .edges))
+    tells-no (λ f. not-kept (c .before .before .before .loop .inv) (c .before .before .loop-test .taken) (c .before .kept .ensures .none (c .if1 .left)) (f .edges))
 
 room-requires : tie.Need-room-requires Inv-loop μ-loop
 room-requires c κs =
@@ -101,7 +96,7 @@ room-requires c κs =
 
 returns-2 : tie.Need-returns-2 Inv-loop μ-loop
 returns-2 c =
-    tells-as _ (λ r. record { edges = seen-end (c .before .before .loop .inv) (c .before .loop-test .left); room = r }) (λ f. f .room) (c .room .ensures)
+    tells-as _ (λ r. record { edges = all-kept (c .before .before .loop .inv) (c .before .loop-test .left); room = r }) (λ f. f .room) (c .room .ensures)
 
 pub fits-spec : {M : Type 1} → statement M
 fits-spec =
