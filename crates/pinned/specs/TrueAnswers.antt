@@ -3,7 +3,7 @@ use mathlib.Core.Path.{_≡_, refl}
 use mathlib.Core.Option.{Option, none, some}
 use mathlib.Core.Logic.{⊎-elim}
 use mathlib.Core.List.{List, [], _∷_, _++_}
-use Prim.Native.Nat.{ℕ, zero, suc, _+_, _≤_, _<_}
+use Prim.Native.Nat.{ℕ, zero, suc, _+_, _-_, _≤_, _<_}
 use native.Mathlib.Omega.{arith}
 use lib.ListN.{replicate}
 use Rattle.laws.specs.Tests.{_and_, _or_, neg}
@@ -12,6 +12,7 @@ use Rattle.laws.specs.Sum.{sum}
 use Rattle.laws.specs.Count.{every}
 use Rattle.laws.specs.Words.{joined, words, keep}
 use Rattle.laws.specs.WordLaws.{isBefore}
+use Rattle.model.specs.Limits as limit
 use Rattle.model.specs.Graph.{Graph, order, Sound}
 use Rattle.model.specs.Tables.{Latency}
 use Rattle.model.specs.Use.{runs, running, Peak}
@@ -41,7 +42,7 @@ sevens = two 7 7
 
 -- a start for each of the 64 that a state holds
 abbrev pub state : ℕ → ℕ → List ℕ
-state a b = a ∷ (b ∷ replicate 62 0)
+state a b = a ∷ (b ∷ replicate (limit.operations - 2) 0)
 
 pair-sound : Sound pair
 unfolding isSound every _and_
