@@ -1,46 +1,17 @@
--- Units in use among the first operations, counted one operation after another.
-use mathlib.Core.Path.{_≡_, refl, sym, ap, subst}
+-- Units are enough all the while that an operation runs where they are at its start and at the starts within its run.
+use mathlib.Core.Path.{_≡_, refl, ap, subst}
 use mathlib.Core.Logic.{⊎-elim}
 use mathlib.Core.List.{List}
 use Prim.Native.Nat.{ℕ, _+_, _≤_, _<_}
 use native.Mathlib.Omega.{arith}
-use lib.Dec.{eqb, leb, ltb}
 use Rattle.laws.specs.Cases.{same-or-not, lt-or-le}
 use Rattle.laws.specs.Rows.{at}
-use Rattle.laws.specs.Tests.{_and_}
-use Rattle.laws.specs.Count.{bit, count-le, count-start, count-step}
 use Rattle.laws.specs.Greatest.{Greatest, greatest}
 use Rattle.model.specs.Graph.{Graph}
-use Rattle.model.specs.Use.{runs}
 use Rattle.model.specs.UseLaws.{Runs, runs-or-not, at-last-start}
-use Rattle.fit.specs.Fit.{users, inUse, Calm, Room}
+use Rattle.running.specs.InUse.{users, inUse}
+use Rattle.fit.specs.Fit.{Calm, Room}
 
--- the operations before i are counted
-pub record Counted (busy types t : List ℕ) (k l placed count i : ℕ) : Type 0 where
-  pub inside : i ≤ placed
-  pub is : count ≡ inUse busy types t k l i
-  pub few : count ≤ i
-
-module _ {busy types t : List ℕ} {k l placed : ℕ} where
-  -- none is counted yet, one more is, all are
-  pub counted-none : Counted busy types t k l placed 0 0
-  counted-none = record { inside = omega arith; is = sym (count-start (runs (users busy types) t k l)); few = omega arith }
-
-  pub counted-step : {count i r : ℕ} → Counted busy types t k l placed count i → i < placed
-      → r ≡ bit (eqb (at types i) k and (leb (at t i) l and ltb l (at t i + at busy i)))
-      → Counted busy types t k l placed (count + r) (i + 1)
-  unfolding runs
-  counted-step {count} {i} {r} c h e =
-      let more = count-step (runs (users busy types) t k l) i in
-      let is : count + r ≡ inUse busy types t k l (i + 1) = omega (arith, c .is, e, more) in
-      record { inside = omega arith; is = is; few = omega (arith, is, count-le (runs (users busy types) t k l) (i + 1)) }
-
-  pub counted-end : {count i : ℕ} → Counted busy types t k l placed count i → placed ≤ i → count ≡ inUse busy types t k l placed
-  counted-end {count} {i} c h =
-      let e : i ≡ placed = omega (arith, c .inside) in
-      subst (λ (m : ℕ). count ≡ inUse busy types t k l m) e (c .is)
-
--- ---- count at starts only
 -- with enough units where i starts and where those of its type start within its run, there are enough all the while that i runs
 pub room-starts : (busy types units t : List ℕ) (i : ℕ) → inUse busy types t (at types i) (at t i) (i + 1) ≤ at units (at types i)
     → ((j : ℕ) → j < i → Calm busy types units t i j) → Room busy types units t i

@@ -1,11 +1,11 @@
 -- Where an operation may stand, given those before it: its edges to them are kept, and its type's units are enough while it runs.
 use mathlib.Core.Path.{_≡_}
-use mathlib.Core.List.{List, []}
+use mathlib.Core.List.{List}
 use Prim.Native.Nat.{ℕ, _+_, _<_, _≤_, max}
 use lib.ListN.{length}
 use Rattle.laws.specs.Rows.{at, tabulate}
 use Rattle.model.specs.Graph.{Graph, edgesOf}
-use Rattle.model.specs.UseLaws.{runningFirst}
+use Rattle.running.specs.InUse.{inUse}
 
 -- the higher end of edge e: the one that is placed last
 abbrev pub higher : List ℕ → List ℕ → ℕ → ℕ
@@ -18,14 +18,6 @@ highers from to = tabulate (higher from to) (length from)
 -- edge e is kept, if its higher end is i
 pub record EdgeKept (delays from to t : List ℕ) (i e : ℕ) : Type 0 where
   pub kept : higher from to e ≡ i → at t (at from e) + at delays (at from e) ≤ at t (at to e)
-
--- what unit use reads of a graph
-abbrev pub users : List ℕ → List ℕ → Graph
-users busy types = record { delays = []; busy = busy; types = types; kinds = 0; from = []; to = [] }
-
--- how many of the first m operations are of type k and running at step l
-abbrev pub inUse : List ℕ → List ℕ → List ℕ → ℕ → ℕ → ℕ → ℕ
-inUse busy types t k l m = runningFirst (users busy types) t m k l
 
 -- the units of i's type are enough, with those before it, where j of that type starts after i and within i's run
 pub record Calm (busy types units t : List ℕ) (i j : ℕ) : Type 0 where

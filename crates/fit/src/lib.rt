@@ -4,43 +4,13 @@ use model::limits::EDGES;
 use model::limits::OPERATIONS;
 ghost use mathlib.Core.Path.{_≡_};
 ghost use Prim.Native.Nat.{_+_, _≤_, _<_, max};
-ghost use lib.Dec.{eqb, leb, ltb};
 ghost use lib.ListN.{length};
 ghost use Rattle.laws.specs.Cases.{Tells};
-ghost use Rattle.laws.specs.Tests.{_and_};
 ghost use Rattle.laws.specs.Rows.{at};
-ghost use Rattle.laws.specs.Count.{bit};
 ghost use Rattle.model.specs.Graph.{lent, Sound};
 ghost use Rattle.links.specs.Linking.{Ends, Linked};
-ghost use Rattle.fit.specs.Fit.{highers, inUse, Calm, Room, Fits};
-
-// 1 if an operation of type `own` that starts at `start` and keeps its unit for `busy` steps is of type `kind` and running at `step`, else 0.
-fn runs(own: u8, start: u16, busy: u8, kind: u8, step: u16) -> usize
-    ensures { λ r. ⌜ (r ≡ bit (eqb own kind and (leb start step and ltb step (start + busy)))) × (r ≤ 1) ⌝ }
-{
-    if own == kind {
-        if start <= step {
-            if (step as usize) < start as usize + busy as usize {
-                return 1;
-            }
-        }
-    }
-    0
-}
-
-// How many of the first `placed` operations are of type `kind` and running at `step`.
-fn in_use(busy: &[u8], types: &[u8], starts: &[u16], kind: u8, step: u16, placed: usize) -> usize
-    requires { ⌜ (placed ≤ length (now busy)) × (placed ≤ length (now types)) × (placed ≤ length (now starts)) ⌝ }
-    ensures { λ r. ⌜ r ≡ inUse (now (busy .entry)) (now (types .entry)) (now (starts .entry)) kind step placed ⌝ }
-{
-    let mut count = 0;
-    let mut i = 0;
-    while i < placed {
-        count += runs(types[i], starts[i], busy[i], kind, step);
-        i += 1;
-    }
-    count
-}
+ghost use Rattle.running.specs.InUse.{inUse};
+ghost use Rattle.fit.specs.Fit.{highers, Calm, Room, Fits};
 
 // Whether a type's units are enough for the first `placed` operations at `step`.
 fn enough(
@@ -56,7 +26,7 @@ fn enough(
     ensures { λ r. ⌜ Tells r (inUse (now (busy .entry)) (now (types .entry)) (now (starts .entry)) kind step placed ≤ at (now (units .entry)) kind) ⌝ }
 {
     let own = kind as usize;
-    if (units[own] as usize) < in_use(busy, types, starts, kind, step, placed) {
+    if (units[own] as usize) < running::in_use(busy, types, starts, kind, step, placed) {
         return false;
     }
     true

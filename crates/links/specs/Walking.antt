@@ -8,7 +8,7 @@ use lib.ListN.{length}
 use Rattle.laws.specs.Cases.{same-or-not, lt-or-le}
 use Rattle.laws.specs.Rows.{at}
 use Rattle.model.specs.Limits as limit
-use Rattle.model.specs.Order.{Order, Closed}
+use Rattle.model.specs.Order.{Order, edgeCount, source, Closed}
 use Rattle.links.specs.Linking.{Ends, ofOperation, ofEdge, LastAt, Linked}
 
 -- P holds of the edges past the link whose end is i, and the link leads to the one to pass next
@@ -27,6 +27,10 @@ targets c = record {
   few = omega (arith, c .few-edges, c .even);
   inside = λ e l. omega (arith, c .target-in e (omega (arith, c .even)), c .few);
 }
+
+-- an edge of it leaves within the rows of operations
+pub source-room : {o : Order} → Closed o → (e : ℕ) → e < edgeCount o → source o e < limit.operations
+source-room c e l = omega (arith, c .few, c .source-in e l)
 
 -- an operation's link leads to one of the edges
 pub operation-low : {ends links : List ℕ} → Linked ends links → (i : ℕ) → i < limit.operations → ofOperation links i ≤ length ends

@@ -19,7 +19,8 @@ use Rattle.model.specs.Limits as limit
 use Rattle.model.specs.Graph.{Graph, many, Sound}
 use Rattle.model.specs.Use.{runs}
 use Rattle.links.specs.Linking.{Ends}
-use Rattle.fit.specs.Fit.{users, inUse, EdgeKept, Room, Fits}
+use Rattle.running.specs.InUse.{users, inUse}
+use Rattle.fit.specs.Fit.{EdgeKept, Room, Fits}
 use Rattle.lister.specs.Search.{Job, Sized, Placed, Ready, Completes, Searched, Begins, Stays, Tried}
 
 -- ---- what stands up to i decides whether i fits

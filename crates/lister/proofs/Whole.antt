@@ -14,14 +14,15 @@ use Rattle.laws.specs.Sum.{sum}
 use Rattle.laws.specs.Count.{count, count-no, count-start}
 use Rattle.laws.specs.Words.{Same, Before}
 use Rattle.laws.specs.WordLaws.{same-none, same-sym, before-same}
-use Rattle.model.specs.Graph.{Graph, order, many, typeOf, Sound}
+use Rattle.model.specs.Graph.{order, many, typeOf, Sound}
 use Rattle.model.specs.Tables.{Earliest, Latest}
 use Rattle.model.specs.Use.{runs, Lawful}
 use Rattle.model.specs.UseLaws.{runs-true, runningFirst}
 use Rattle.model.specs.LawfulLaws.{lawful-in-window}
 use Rattle.model.specs.Listing.{Later, Least, NoneLeft, Gives}
 use Rattle.model.specs.declared.Listed.{Listed}
-use Rattle.fit.specs.Fit.{higher, inUse}
+use Rattle.running.specs.InUse.{in-use-is}
+use Rattle.fit.specs.Fit.{higher}
 use Rattle.lister.specs.Search.{Job, Placed, Completes, Searched}
 use Rattle.lister.specs.Asking.{askedOf, Given, Sought}
 use Rattle.lister.proofs.Turns.{placed-local}
@@ -35,11 +36,6 @@ count-wide p m (suc n) l =
     (λ e. subst (λ (k : ℕ). count p m ≤ count p k) e (omega arith))
     (λ h. omega (arith, count-wide p m n (le-of-suc-le-suc h)))
     (eq-or-lt-of-le l)
-
--- what unit use reads of a graph is all that it goes by
-in-use-is : (g : Graph) (t : List ℕ) (k l m : ℕ) → inUse (g .busy) (g .types) t k l m ≡ runningFirst g t m k l
-unfolding runs
-in-use-is g t k l m = refl
 
 module _ (j : Job) (sound : Sound (j .graph)) (bound : ℕ) (early : Earliest (order (j .graph)) (j .early)) (late : Latest (order (j .graph)) bound (j .late)) where
   -- windows lose nothing

@@ -1,3 +1,2 @@
-mod Counted
 mod Peaked
 mod Refused

@@ -4,47 +4,12 @@ use model::Peaks;
 use model::limits::KINDS;
 ghost use mathlib.Core.Path.{_≡_};
 ghost use mathlib.Core.List.{List};
-ghost use Prim.Native.Nat.{ℕ, _+_, max};
-ghost use lib.ListN.{length};
-ghost use Rattle.laws.specs.Count.{bit};
+ghost use Prim.Native.Nat.{ℕ, max};
 ghost use Rattle.model.specs.Graph.{lent};
-ghost use Rattle.model.specs.Use.{running};
-ghost use Rattle.model.specs.RunLaws.{runsFor};
 ghost use Rattle.model.specs.Refusals.{First};
 ghost use Rattle.model.specs.Answers.{refusalOf};
 ghost use Rattle.model.specs.Verdicts.{peakChecks, PeakAnswer};
 ghost use Rattle.peak.specs.Peaking.{Countable, AllPeaks};
-
-// 1 where an operation of type `of`, with this start and busy time, is of type `kind` and running at the step; else 0.
-fn runs_at(of: u8, start: u16, busy: u8, kind: usize, step: usize) -> usize
-    ensures { λ r. ⌜ r ≡ bit (runsFor of start (start + busy) kind step) ⌝ }
-{
-    if of as usize != kind {
-        return 0;
-    }
-    if step < start as usize {
-        return 0;
-    }
-    if step < start as usize + busy as usize {
-        return 1;
-    }
-    0
-}
-
-// How many operations of a type are running at a step, whatever the edges are.
-fn running_at(delays: &[u8], types: &[u8], starts: &[u16], kind: usize, step: usize) -> usize
-    requires { ⌜ length (now delays) ≡ length (now types) ⌝ }
-    requires { ⌜ length (now starts) ≡ length (now delays) ⌝ }
-    ensures { λ r. ⌜ ((kinds : ℕ) (from to : List ℕ) → r ≡ running (lent (now (delays .entry)) (now (types .entry)) kinds from to) (now (starts .entry)) kind step) ⌝ }
-{
-    let mut many = 0;
-    let mut i = 0;
-    while i < delays.len() {
-        many += runs_at(types[i], starts[i], delays[i], kind, step);
-        i += 1;
-    }
-    many
-}
 
 // The larger of two numbers.
 fn larger(a: usize, b: usize) -> usize
@@ -65,8 +30,8 @@ fn peaks(delays: &[u8], types: &[u8], starts: &[u16]) -> [usize; KINDS]
     let mut i = 0;
     while i < delays.len() {
         let kind = types[i] as usize;
-        let step = starts[i] as usize;
-        counts[kind] = larger(counts[kind], running_at(delays, types, starts, kind, step));
+        let now = running::in_use(delays, types, starts, types[i], starts[i], delays.len());
+        counts[kind] = larger(counts[kind], now);
         i += 1;
     }
     counts

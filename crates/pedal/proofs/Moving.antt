@@ -8,22 +8,18 @@ use Prim.Native.Nat.{ℕ}
 use native.Mathlib.Omega.{arith}
 use lib.ListN.{length, take}
 use lib.Seq.{take-all}
-use Rattle.laws.specs.Rows.{over, tabulate-long, same-row, over-long, over-front}
+use Rattle.laws.specs.Rows.{over, same-row, over-long, over-front}
 use Rattle.model.specs.Limits as limit
 use Rattle.model.specs.Graph.{Graph}
-use Rattle.model.specs.Rule.{stepped}
 use Rattle.model.specs.Refusals.{First, shape}
 use Rattle.model.specs.RefusalLaws.{shape-own}
 use Rattle.model.specs.Answers.{refusalOf}
+use Rattle.model.specs.RuleLaws.{stepped-long}
 use Rattle.model.specs.ScheduleLaws.{all-or-not}
 use Rattle.model.specs.Scheduling.{AdvanceAnswer, StateAfter}
 use Rattle.model.specs.declared.Answer.{Answer}
 use Rattle.pedal.specs.Face.{MoveSaid, filledOf}
 use Rattle.pedal.specs.declared.Filled.{Filled}
-
-stepped-long : (g : Graph) (labels units t : List ℕ) (l : ℕ) → length (stepped g labels units t l) ≡ length t
-unfolding stepped
-stepped-long g labels units t l = tabulate-long _ (length t)
 
 -- an advance keeps the number of starts
 state-long : (g : Graph) (units t : List ℕ) (step : ℕ) (x : Option (ℕ × ℕ)) (t′ : List ℕ) (step′ : ℕ) → StateAfter g units t step x t′ step′ → length t′ ≡ length t

@@ -5,6 +5,7 @@ use mathlib.Core.Logic.{⊎-elim}
 use mathlib.Core.List.{List, [], _∷_}
 use Prim.Native.Nat.{ℕ, zero, suc, _+_, _≤_, _<_}
 use native.Mathlib.Omega.{arith}
+use borrow.Author.Count.{below-more}
 use borrow.Author.Tests.{leb-true, eqb-false}
 use lib.Dec.{leb, eqb}
 use Rattle.laws.specs.Tests.{_and_, _or_, neg, clash, or-cases, neg-false}
@@ -22,10 +23,7 @@ three a b c = a ∷ (b ∷ (c ∷ []))
 
 -- what holds of 0, 1 and 2 holds below 3
 pub below-three : (P : ℕ → Type 0) → P 0 → P 1 → P 2 → (i : ℕ) → i < 3 → P i
-below-three P a b c zero l = a
-below-three P a b c (suc zero) l = b
-below-three P a b c (suc (suc zero)) l = c
-below-three P a b c (suc (suc (suc i))) l = absurd (omega arith)
+below-three P a b c = below-more P 2 (below-two P a b) c
 
 -- three that differ stand apart in their row
 apart-three : (a b c : ℕ) → (a ≡ b → ⊥) → (a ≡ c → ⊥) → (b ≡ c → ⊥) → (j k : ℕ) → j < k → k < 3 → at (three a b c) j ≡ at (three a b c) k → ⊥

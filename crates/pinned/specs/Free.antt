@@ -1,8 +1,9 @@
 -- Operations of delay 1 and one type: the tables of n independent ones at bound 2, and of two in a row at bound 3.
 use mathlib.Core.Path.{_≡_, refl, sym, _∙_}
 use mathlib.Core.List.{List, [], _∷_}
-use Prim.Native.Nat.{ℕ, zero, suc, _+_, _-_, _≤_, _<_}
+use Prim.Native.Nat.{ℕ, _+_, _-_, _≤_, _<_}
 use native.Mathlib.Omega.{arith}
+use borrow.Author.Count.{below-none, below-more}
 use lib.ListN.{length, replicate, length-replicate, getD-replicate}
 use Rattle.laws.specs.Rows.{at}
 use Rattle.model.specs.Graph.{Graph, lent, order, many}
@@ -16,16 +17,12 @@ ones n from to = lent (replicate n 1) (replicate n 0) 1 from to
 abbrev pub two : ℕ → ℕ → List ℕ
 two a b = a ∷ (b ∷ [])
 
--- what holds of 0 and of 1 holds below 2
-pub below-two : (P : ℕ → Type 0) → P 0 → P 1 → (i : ℕ) → i < 2 → P i
-below-two P a b zero l = a
-below-two P a b (suc zero) l = b
-below-two P a b (suc (suc i)) l = absurd (omega arith)
-
--- and of 0 alone below 1
+-- what holds of 0 holds below 1; of 0 and 1, below 2
 pub below-one : (P : ℕ → Type 0) → P 0 → (i : ℕ) → i < 1 → P i
-below-one P a zero l = a
-below-one P a (suc i) l = absurd (omega arith)
+below-one P a = below-more P 0 (below-none P) a
+
+pub below-two : (P : ℕ → Type 0) → P 0 → P 1 → (i : ℕ) → i < 2 → P i
+below-two P a b = below-more P 1 (below-one P a) b
 
 -- ---- independent
 module _ (n : ℕ) where

@@ -7,6 +7,7 @@ use Prim.Native.Nat.{ℕ}
 use native.Mathlib.Omega.{arith}
 use lib.ListN.{length}
 use denote.Ref.{now, ptr}
+use Rattle.laws.specs.Cases.{none-some}
 use Rattle.laws.specs.Rows.{at}
 use Rattle.model.specs.Answers.{AsapAnswer, AlapAnswer, MobilityAnswer}
 use Rattle.model.specs.TableAnswers.{asap-answer-one, alap-answer-one, mobility-answer-one}
@@ -49,9 +50,6 @@ latency-not-refused l why e = let z : _≡_ {A = ℕ} 0 1 = cc in omega arith
 latency-is : (l m : ℕ) → scheduled.Latency l ≡ scheduled.Latency m → l ≡ m
 latency-is l m e = cc
 
-none-not-some : (why : ℕ × ℕ) → _≡_ {A = Option (ℕ × ℕ)} none (some why) → ⊥
-none-not-some why e = let z : _≡_ {A = ℕ} 0 1 = cc in omega arith
-
 -- ---- case 13's verdicts
 -- at 1 and 2 the unit is over-used at step 2
 crowded : Checked (slow 2) single 4 (two 1 2) (record { finding = found.OverUse 2 0 })
@@ -82,7 +80,7 @@ list-not-refused why after h =
 
 pub advance-not-refused : (why : ℕ × ℕ) (after : List ℕ) (step : ℕ) → AdvanceAnswer pair single (state 0 0) 1 (some why) after step → ⊥
 advance-not-refused why after step h =
-    none-not-some why (advance-answer-one pair single (state 0 0) 1 none (some why) (state 1 0) after 2 step advance-true h .0)
+    none-some (advance-answer-one pair single (state 0 0) 1 none (some why) (state 1 0) after 2 step advance-true h .0)
 
 pub check-not-refused : (why : Refusal) → Checked (slow 2) single 4 (two 1 3) (record { finding = found.Refused why }) → ⊥
 check-not-refused why h = let e = ap (λ (v : Verdict). v .finding) (checked-one (slow 2) single 4 (two 1 3) _ _ spaced h) in absurd (let z : _≡_ {A = ℕ} 0 1 = cc in omega arith)

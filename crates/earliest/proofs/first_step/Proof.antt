@@ -5,9 +5,9 @@ use native.Mathlib.Omega.{arith}
 use borrow.Author.Needs.{needs}
 use Rattle.laws.specs.Rows.{at}
 use Rattle.model.specs.Order.{ordered}
-use Rattle.links.specs.Walking.{operation-low}
+use Rattle.links.specs.Walking.{operation-low, source-room}
 use Rattle.earliest.proofs.Back.{Back, back-none, back-inside, back-falls, back-waits, back-step, back-end}
-use Rattle.earliest.proofs.Room.{source-room, start-room}
+use Rattle.earliest.proofs.Room.{start-room}
 use Rattle.earliest.proofs.first_step.Statement.{statement}
 use Rattle.earliest.proofs.first_step.Tie as tie
 

@@ -1,7 +1,9 @@
 -- `peak::peaks` meets its contract: each number is the largest count at the starts passed, and a maximum is met at a start.
 use Prim.Native.Nat.{ℕ, _-_}
 use mathlib.Core.List.{List}
-use Rattle.model.specs.Graph.{lent}
+use Rattle.laws.specs.Rows.{at}
+use Rattle.model.specs.Graph.{lent, many, typeOf}
+use Rattle.running.specs.InUse.{in-use-is}
 use Rattle.peak.proofs.Peaked.{Peaked, peaked-none, peaked-step, peaked-end}
 use native.Mathlib.Omega.{arith}
 use borrow.Author.Needs.{needs}
@@ -24,32 +26,34 @@ shared-slice-read-kind c = search needs
 cast-kind : tie.Need-cast-kind Inv-loop μ-loop
 cast-kind c = omega (arith, c .shared-slice-known4 .given (c .before .before .loop .i))
 
-mul-step : tie.Need-mul-step Inv-loop μ-loop
-mul-step c = search needs
+shared-slice-read-in-use : tie.Need-shared-slice-read-in-use Inv-loop μ-loop
+shared-slice-read-in-use c = search needs
 
-shared-slice-read-step : tie.Need-shared-slice-read-step Inv-loop μ-loop
-shared-slice-read-step c = search needs
+mul-in-use : tie.Need-mul-in-use Inv-loop μ-loop
+mul-in-use c = search needs
 
-cast-step : tie.Need-cast-step Inv-loop μ-loop
-cast-step c = omega (arith, c .shared-slice-known5 .given (c .before .before .before .loop .i))
+shared-slice-read-in-use-2 : tie.Need-shared-slice-read-in-use-2 Inv-loop μ-loop
+shared-slice-read-in-use-2 c = search needs
+
+in-use-requires : tie.Need-in-use-requires Inv-loop μ-loop
+in-use-requires c κs =
+    let start = c .before .before .before .before .before .before .before .before in
+    (omega arith, omega (arith, start .pre .even-types), omega (arith, start .pre .even-starts))
 
 mul-larger : tie.Need-mul-larger Inv-loop μ-loop
-mul-larger c = omega (arith, c .before .before .before .before .before .before .before .pre .type-in (c .before .before .before .loop .i) (c .before .before .loop-test .taken))
+mul-larger c = omega (arith, c .before .before .before .before .before .before .before .before .before .pre .type-in (c .before .before .before .before .before .loop .i) (c .before .before .before .before .loop-test .taken))
 
 array-read-larger : tie.Need-array-read-larger Inv-loop μ-loop
-array-read-larger c = c .before .before .before .before .before .before .before .pre .type-in (c .before .before .before .loop .i) (c .before .before .loop-test .taken)
-
-running-at-requires : tie.Need-running-at-requires Inv-loop μ-loop
-running-at-requires c κs = (c .before .before .before .before .before .before .before .pre .even-types, c .before .before .before .before .before .before .before .pre .even-starts)
+array-read-larger c = c .before .before .before .before .before .before .before .before .before .pre .type-in (c .before .before .before .before .before .loop .i) (c .before .before .before .before .loop-test .taken)
 
 larger-requires : tie.Need-larger-requires Inv-loop μ-loop
 larger-requires c κs = search needs
 
 mul-counts : tie.Need-mul-counts Inv-loop μ-loop
-mul-counts c = omega (arith, c .before .before .before .before .before .before .before .before .before .pre .type-in (c .before .before .before .before .before .loop .i) (c .before .before .before .before .loop-test .taken))
+mul-counts c = omega (arith, c .before .before .before .before .before .before .before .before .before .before .pre .type-in (c .before .before .before .before .before .before .loop .i) (c .before .before .before .before .before .loop-test .taken))
 
 array-write-counts : tie.Need-array-write-counts Inv-loop μ-loop
-array-write-counts c = c .before .before .before .before .before .before .before .before .before .pre .type-in (c .before .before .before .before .before .loop .i) (c .before .before .before .before .loop-test .taken)
+array-write-counts c = c .before .before .before .before .before .before .before .before .before .before .pre .type-in (c .before .before .before .before .before .before .loop .i) (c .before .before .before .before .before .loop-test .taken)
 
 add-i : tie.Need-add-i Inv-loop μ-loop
 add-i c = search needs
@@ -59,8 +63,12 @@ loop-less c = search needs
 
 loop-again : tie.Need-loop-again Inv-loop μ-loop
 loop-again c = λ kinds from to.
-    peaked-step (c .before .before .before .before .before .loop .inv kinds from to) (c .before .before .before .before .loop-test .taken) (c .before .before .before .before .before .before .before .before .before .pre .type-in (c .before .before .before .before .before .loop .i) (c .before .before .before .before .loop-test .taken))
-    (omega (arith, c .larger .ensures, c .before .running-at .ensures kinds from to))
+    let a = c .before .before .before .before .before .before .before .before .before .before .args in
+    let here = c .before .before .before .before .before .before .loop in
+    let g = lent (a .delays .now) (a .types .now) kinds from to in
+    let t = a .starts .now in
+    peaked-step (here .inv kinds from to) (c .before .before .before .before .before .loop-test .taken) (c .before .before .before .before .before .before .before .before .before .before .pre .type-in (c .before .before .before .before .before .before .loop .i) (c .before .before .before .before .before .loop-test .taken))
+    (omega (arith, c .larger .ensures, c .before .in-use .ensures, in-use-is g t (typeOf g (here .i)) (at t (here .i)) (many g)))
 
 returns : tie.Need-returns Inv-loop μ-loop
 returns c = λ kinds from to. peaked-end (c .before .loop .inv kinds from to) (c .loop-test .left)
@@ -74,12 +82,12 @@ peaks-spec =
     loop-holds
     shared-slice-read-kind
     cast-kind
-    mul-step
-    shared-slice-read-step
-    cast-step
+    shared-slice-read-in-use
+    mul-in-use
+    shared-slice-read-in-use-2
+    in-use-requires
     mul-larger
     array-read-larger
-    running-at-requires
     larger-requires
     mul-counts
     array-write-counts

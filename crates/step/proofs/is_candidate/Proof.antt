@@ -2,9 +2,8 @@
 use Prim.Native.Nat.{_-_}
 use native.Mathlib.Omega.{arith}
 use borrow.Author.Needs.{needs}
-use Rattle.links.specs.Walking.{Passed, operation-low, passed-none, passed-inside, passed-at, passed-falls, passed-step}
+use Rattle.links.specs.Walking.{Passed, operation-low, passed-none, passed-inside, passed-at, passed-falls, passed-step, source-room}
 use Rattle.step.proofs.Clearing.{Clear, placed-none, held-none, cleared}
-use Rattle.step.proofs.Rooms.{source-room}
 use Rattle.step.proofs.is_candidate.Statement.{statement}
 use Rattle.step.proofs.is_candidate.Tie as tie
 

@@ -1,15 +1,16 @@
--- `fit::in_use` meets its contract: the operations before i are counted.
+-- The loop keeps `Counted`. What is left of the operations falls.
 use Prim.Native.Nat.{_-_}
+use native.Mathlib.Omega.{arith}
 use borrow.Author.Needs.{needs}
-use Rattle.fit.proofs.Counting.{Counted, counted-none, counted-step, counted-end}
-use Rattle.fit.proofs.in_use.Statement.{statement}
-use Rattle.fit.proofs.in_use.Tie as tie
+use Rattle.running.proofs.Counting.{Counted, counted-none, counted-step, counted-end}
+use Rattle.running.proofs.in_use.Statement.{statement}
+use Rattle.running.proofs.in_use.Tie as tie
 
 abbrev Inv-loop : tie.InvT-loop
-Inv-loop busy types starts kind step placed count₀ i₀ count i = Counted busy types starts kind step placed count i
+Inv-loop busy types starts kind step first count₀ i₀ count i = Counted busy types starts kind step first count i
 
 abbrev μ-loop : tie.MeasureT-loop
-μ-loop busy types starts kind step placed count₀ i₀ count i = placed - i
+μ-loop busy types starts kind step first count₀ i₀ count i = first - i
 
 loop-holds : tie.Need-loop-holds Inv-loop μ-loop
 loop-holds c = counted-none
@@ -30,7 +31,7 @@ runs-requires : tie.Need-runs-requires Inv-loop μ-loop
 runs-requires c κs = search needs
 
 add-count : tie.Need-add-count Inv-loop μ-loop
-add-count c = search needs
+add-count c = omega (arith, counted-step (c .before .before .before .before .before .loop .inv) (c .before .before .before .before .loop-test .taken) (c .runs .ensures) .few)
 
 add-i : tie.Need-add-i Inv-loop μ-loop
 add-i c = search needs
@@ -39,7 +40,7 @@ loop-less : tie.Need-loop-less Inv-loop μ-loop
 loop-less c = search needs
 
 loop-again : tie.Need-loop-again Inv-loop μ-loop
-loop-again c = counted-step (c .before .before .before .before .before .loop .inv) (c .before .before .before .before .loop-test .taken) (c .runs .ensures .0)
+loop-again c = counted-step (c .before .before .before .before .before .loop .inv) (c .before .before .before .before .loop-test .taken) (c .runs .ensures)
 
 returns : tie.Need-returns Inv-loop μ-loop
 returns c = counted-end (c .before .loop .inv) (c .loop-test .left)
