@@ -143,7 +143,6 @@ pub record Passing (g : Graph) (units row t : List ℕ) (l : ℕ) (used x : List
   pub whole : length t ≡ limit.operations
   pub priority : Priority g row
   pub within : p ≤ many g
-  pub from-one : 1 ≤ l
   pub long : length x ≡ limit.operations
   pub long-used : length used ≡ limit.kinds
   pub done : (i : ℕ) → i < many g → rankOf (priority .labels) (many g) i < p → at x i ≡ at (stepped g (priority .labels) units t l) i
@@ -151,15 +150,14 @@ pub record Passing (g : Graph) (units row t : List ℕ) (l : ℕ) (used x : List
   pub rest : (i : ℕ) → many g ≤ i → at x i ≡ at t i
   pub counts : (k : ℕ) → k < limit.kinds → at used k ≡ inUse g t k l + count (passed g (priority .labels) units t l k p) (many g)
 
-pub passing-none : {g : Graph} {units row t : List ℕ} {l : ℕ} {used : List ℕ} → Sound g → 1 ≤ l → length t ≡ limit.operations → Priority g row
+pub passing-none : {g : Graph} {units row t : List ℕ} {l : ℕ} {used : List ℕ} → Sound g → length t ≡ limit.operations → Priority g row
     → Tally (at (g .types)) (usesAt (g .busy) t l) limit.kinds used (many g) → Passing g units row t l used t 0
 unfolding passed
-passing-none {g} {units} {row} {t} {l} {used} s from long h b = record {
+passing-none {g} {units} {row} {t} {l} {used} s long h b = record {
   sound = s;
   whole = long;
   priority = h;
   within = omega arith;
-  from-one = from;
   long = long;
   long-used = b .long;
   done = λ i u r. absurd (omega arith);
@@ -311,7 +309,6 @@ module _ {g : Graph} {units row t : List ℕ} {l : ℕ} {used x : List ℕ} {p :
         whole = h .whole;
         priority = h .priority;
         within = omega arith;
-        from-one = h .from-one;
         long = length-set x i v ∙ h .long;
         long-used = length-set used k (at used k + now) ∙ h .long-used;
         done = λ j b r.

@@ -23,7 +23,7 @@ in-use-requires c κs = typed-rows (c .before .before .before .before .before .b
 loop-holds : tie.Need-loop-holds Inv-loop μ-loop
 loop-holds c =
     let pre = c .before .before .before .before .before .before .before .pre in
-    passing-none (pre .0) (pre .1 .1 .1 .0 .0) (pre .1 .1 .1 .1) (pre .1 .1 .0) (c .in-use .ensures)
+    passing-none (pre .0) (pre .1 .1 .1 .1) (pre .1 .1 .0) (c .in-use .ensures)
 
 mul-i : tie.Need-mul-i Inv-loop μ-loop
 mul-i c = omega (arith, c .before .before .before .before .before .before .before .before .before .pre .0 .even-types, c .before .before .before .before .before .before .before .before .before .pre .0 .few)
