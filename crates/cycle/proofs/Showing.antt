@@ -9,12 +9,11 @@ use Rattle.laws.specs.Cases.{lt-or-le}
 use Rattle.laws.specs.Rows.{take-at, take-long, over-is}
 use Rattle.laws.specs.Lowest.{Lowest}
 use Rattle.model.specs.Order.{Order, size, edgeCount, Closed, Cyclic, Kept}
-use Rattle.model.specs.WalkLaws.{kept-inside}
-use Rattle.model.specs.CycleLaws.{cyclic-kept}
-use Rattle.model.specs.CycleLaws.Trails.{trail-few}
-use Rattle.model.specs.CycleLaws.Backs.{Backed, backed-end, Leads}
-use Rattle.model.specs.CycleLaws.Walks.{Stays, leads-stays, Rounds, trail-made}
-use Rattle.model.specs.CycleLaws.Writes.{Least, Wrote, shown-made}
+use Rattle.theory.specs.order.KeptOperations.{kept-inside, cyclic-kept}
+use Rattle.theory.specs.cycle.OneTrail.{trail-few}
+use Rattle.theory.specs.cycle.LowestPredecessors.{Backed, backed-end, Leads}
+use Rattle.theory.specs.cycle.WalkUntilMetAgain.{Stays, leads-stays, Rounds, trail-made}
+use Rattle.theory.specs.cycle.WritingTheCycle.{Least, Wrote, shown-made}
 use Rattle.cycle.specs.Show.{KeptAt, Shows}
 use Rattle.cycle.specs.Parts.{Blank, Ends, FirstBlank, Trailed}
 

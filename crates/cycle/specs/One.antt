@@ -5,7 +5,7 @@ use Prim.Native.Nat.{ℕ}
 use lib.ListN.{length}
 use Rattle.laws.specs.Rows.{over}
 use Rattle.model.specs.Order.{Order}
-use Rattle.model.specs.CycleLaws.{shown-one}
+use Rattle.theory.specs.cycle.OneShown.{shown-one}
 use Rattle.cycle.specs.Show.{Shows}
 
 -- an order has one cycle shown, so its length and the row with it in front are one

@@ -1,4 +1,4 @@
--- What the parts of `show` ask for and find. The records that their loops keep are in model's `CycleLaws`.
+-- What the parts of `show` ask for and find. The records that their loops keep are in `theory`, under `cycle`.
 use mathlib.Core.Path.{_≡_}
 use mathlib.Core.List.{List}
 use Prim.Native.Nat.{ℕ, _+_, _≤_, _<_}

@@ -5,10 +5,10 @@ ghost use Prim.Native.Nat.{_-_, _≤_, _<_};
 ghost use lib.ListN.{length};
 ghost use Rattle.model.specs.Limits as limit;
 ghost use Rattle.model.specs.Order.{ordered, Closed, Cyclic};
-ghost use Rattle.model.specs.CycleLaws.Backs.{Lower, Backed};
-ghost use Rattle.model.specs.CycleLaws.Walks.{Stays, Rounds};
-ghost use Rattle.model.specs.CycleLaws.Turns.{Turned};
-ghost use Rattle.model.specs.CycleLaws.Writes.{Lesser, Least, Wrote};
+ghost use Rattle.theory.specs.cycle.LowestPredecessors.{Lower, Backed};
+ghost use Rattle.theory.specs.cycle.WalkUntilMetAgain.{Stays, Rounds};
+ghost use Rattle.theory.specs.cycle.TurnedRound.{Turned};
+ghost use Rattle.theory.specs.cycle.WritingTheCycle.{Lesser, Least, Wrote};
 ghost use Rattle.cycle.specs.Show.{KeptAt, Shows};
 ghost use Rattle.cycle.specs.Parts.{Blank, Ends, FirstBlank, Trailed, Span, Round};
 

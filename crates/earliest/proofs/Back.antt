@@ -6,7 +6,7 @@ use native.Mathlib.Omega.{arith}
 use Rattle.laws.specs.Rows.{at}
 use Rattle.model.specs.Order.{Order, size, edgeCount, weight, source, Closed}
 use Rattle.model.specs.Placing.{MayStart}
-use Rattle.model.specs.PlacingSteps.{later, FirstStep}
+use Rattle.theory.specs.order.PlacingSteps.{later, FirstStep}
 use Rattle.links.specs.Linking.{ofOperation, ofEdge, Linked}
 use Rattle.links.specs.Walking.{Passed, passed-as, passed-none, passed-inside, passed-at, passed-falls, passed-step, passed-end}
 use Rattle.earliest.proofs.Later.{later-zero, later-placed, later-max}

@@ -3,7 +3,7 @@ use mathlib.Core.Path.{_≡_, refl}
 use Prim.Native.Nat.{ℕ, zero, suc, _+_, _≤_, _<_, max}
 use native.Mathlib.Nat.{not-suc-le-zero}
 use native.Mathlib.Omega.{arith}
-use Rattle.model.specs.PlacingSteps.{later}
+use Rattle.theory.specs.order.PlacingSteps.{later}
 
 -- the edge's source is not placed
 pub later-waits : (v start w : ℕ) → start ≡ 0 → later v start w ≡ 0

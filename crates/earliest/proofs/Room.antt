@@ -6,7 +6,7 @@ use Rattle.laws.specs.Rows.{at}
 use Rattle.laws.specs.Count.{marks-le}
 use Rattle.model.specs.Limits as limit
 use Rattle.model.specs.Order.{Order, size, Closed}
-use Rattle.model.specs.PlacingSteps.{Part}
+use Rattle.theory.specs.order.PlacingSteps.{Part}
 
 -- no start is above what all operations can add up to
 pub start-room : {o : Order} {s : List ℕ} → Closed o → Part o s → (i : ℕ) → at s i ≤ 1 + limit.longest * limit.operations

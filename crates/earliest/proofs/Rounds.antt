@@ -9,7 +9,7 @@ use Rattle.laws.specs.Count.{marks, marks-le, marks-lt, marks-none}
 use Rattle.model.specs.Limits as limit
 use Rattle.model.specs.Order.{Order, size, Closed}
 use Rattle.model.specs.Placing.{Placing}
-use Rattle.model.specs.PlacingSteps.{part-none, part-whole}
+use Rattle.theory.specs.order.PlacingSteps.{part-none, part-whole}
 use Rattle.links.specs.Linking.{Linked}
 use Rattle.earliest.specs.Round.{Known, Round}
 use Rattle.earliest.proofs.Sweep.{known-more}

@@ -10,7 +10,7 @@ use Rattle.laws.specs.Rows.{at}
 use Rattle.laws.specs.Count.{marks, marks-le}
 use Rattle.model.specs.Order.{Order, size, Closed}
 use Rattle.model.specs.Placing.{StartsAt, Waits}
-use Rattle.model.specs.PlacingSteps.{Part, part-more, more-set}
+use Rattle.theory.specs.order.PlacingSteps.{Part, part-more, more-set}
 use Rattle.earliest.specs.Round.{Known, Visit, Round, turn}
 
 -- the links stay when more is placed

@@ -4,7 +4,7 @@ use mathlib.Core.List.{List}
 use Prim.Native.Nat.{ℕ}
 use Rattle.model.specs.Order.{ordered, Closed}
 use Rattle.model.specs.Placing.{Placing}
-use Rattle.model.specs.PlacingLaws.{placing-one}
+use Rattle.theory.specs.order.PlacingOutcome.{placing-one}
 
 -- any two outcomes that the contract allows are equal, row and number
 pub earliest-one : (weights from to : List ℕ) → Closed (ordered weights from to) → {s s′ : List ℕ} {r r′ : ℕ} → Placing (ordered weights from to) s r

@@ -7,7 +7,7 @@ use Rattle.laws.specs.Rows.{at}
 use Rattle.laws.specs.Count.{marks}
 use Rattle.model.specs.Order.{Order, size, Closed}
 use Rattle.model.specs.Placing.{Waits}
-use Rattle.model.specs.PlacingSteps.{Part}
+use Rattle.theory.specs.order.PlacingSteps.{Part}
 use Rattle.links.specs.Linking.{Linked}
 
 -- what a visit starts from: part of the order is placed, and its edges are linked by their targets

@@ -5,7 +5,7 @@ ghost use lib.ListN.{length};
 ghost use Rattle.model.specs.Limits as limit;
 ghost use Rattle.model.specs.Order.{Closed, ordered};
 ghost use Rattle.model.specs.Placing.{Placing};
-ghost use Rattle.model.specs.PlacingSteps.{later, FirstStep};
+ghost use Rattle.theory.specs.order.PlacingSteps.{later, FirstStep};
 ghost use Rattle.earliest.specs.Round.{Known, Visit, Round, turn};
 use links::LINKS;
 use model::limits::OPERATIONS;

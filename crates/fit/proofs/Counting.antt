@@ -8,7 +8,7 @@ use Rattle.laws.specs.Cases.{same-or-not, lt-or-le}
 use Rattle.laws.specs.Rows.{at}
 use Rattle.laws.specs.Greatest.{Greatest, greatest}
 use Rattle.model.specs.Graph.{Graph}
-use Rattle.model.specs.UseLaws.{Runs, runs-or-not, at-last-start}
+use Rattle.theory.specs.unit_use.RunningAndPeak.{Runs, runs-or-not, at-last-start}
 use Rattle.running.specs.InUse.{users, inUse}
 use Rattle.fit.specs.Fit.{Calm, Room}
 

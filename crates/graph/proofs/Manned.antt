@@ -8,7 +8,8 @@ use lib.ListN.{length}
 use Rattle.laws.specs.TellLaws.{on}
 use Rattle.model.specs.Graph.{Graph, Sound}
 use Rattle.model.specs.Refusals.{First, shape, output}
-use Rattle.model.specs.RefusalLaws.{first-none-append, own-not, sound}
+use Rattle.theory.specs.refusals.FirstRefusal.{first-none-append}
+use Rattle.theory.specs.refusals.SoundGraph.{own-not, sound}
 
 module _ (g : Graph) (units : List ℕ) (matched : Bool) (counts : matched ≡ true → length units ≡ g .kinds) where
   -- the rows match, or the second had said so

@@ -9,9 +9,9 @@ use Rattle.laws.specs.Cases.{lt-or-le}
 use Rattle.laws.specs.Rows.{over}
 use Rattle.model.specs.Graph.{Graph}
 use Rattle.model.specs.Refusals.{First, shape, output, unitless}
-use Rattle.model.specs.RefusalLaws.{shape-ones, unitless-ones, front-ones, graph-unit-ones, front-unit-ones}
+use Rattle.theory.specs.refusals.OneRefusal.{shape-ones, unitless-ones, front-ones, graph-unit-ones, front-unit-ones}
 use Rattle.model.specs.Answers.{refusalOf}
-use Rattle.model.specs.AnswerLaws.{answer-one}
+use Rattle.theory.specs.refusals.RefusalNumbers.{answer-one}
 use Rattle.model.specs.declared.Answer.{Answer}
 use Rattle.graph.specs.Lowered.{Lowered}
 

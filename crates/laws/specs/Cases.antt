@@ -42,11 +42,6 @@ tells-yes p = record { yes = λ e. p; none = λ e. absurd (true≢false e) }
 pub tells-no : {P : Type 0} → (P → ⊥) → Tells false P
 tells-no n = record { yes = λ e. absurd (false≢true e); none = λ e. n }
 
--- a test that tells decides
-pub decided : {P : Type 0} (r : Bool) → Tells r P → P ⊎ (P → ⊥)
-decided true t = inl (t .yes refl)
-decided false t = inr (t .none refl)
-
 -- two tests that tell the same are the same
 pub tells-one : {P : Type 0} (r s : Bool) → Tells r P → Tells s P → r ≡ s
 tells-one true true a b = refl

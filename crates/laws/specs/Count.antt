@@ -54,9 +54,6 @@ count-full p n h = omega (arith, sum-same (λ i. bit (p i)) (λ i. 1) n (λ i l.
 pub count-none : (p : ℕ → Bool) (n : ℕ) → ((i : ℕ) → i < n → p i ≡ false) → count p n ≡ 0
 count-none p n h = sum-zero (λ i. bit (p i)) n (λ i l. ap bit (h i l))
 
-pub count-yes : (p : ℕ → Bool) (n : ℕ) → p n ≡ true → count p (n + 1) ≡ count p n + 1
-count-yes p n e = omega (arith, sum-step (λ i. bit (p i)) n, ap bit e)
-
 pub count-no : (p : ℕ → Bool) (n : ℕ) → p n ≡ false → count p (n + 1) ≡ count p n
 count-no p n e = omega (arith, sum-step (λ i. bit (p i)) n, ap bit e)
 

@@ -22,14 +22,6 @@ lowest-one P n i j a b =
     (λ h. ⊎-elim (λ k. absurd (a .none-before j k (b .holds))) (λ k. omega arith) (lt-or-le j i))
     (lt-or-le i j)
 
--- the lowest goes by what holds below n alone
-pub lowest-same : (P Q : ℕ → Type 0) (n i : ℕ) → ((k : ℕ) → k < n → P k → Q k) → ((k : ℕ) → k < n → Q k → P k) → Lowest P n i → Lowest Q n i
-lowest-same P Q n i there back h = record {
-  inside = h .inside;
-  holds = there i (h .inside) (h .holds);
-  none-before = λ k l q. h .none-before k l (back k (omega (arith, h .inside)) q);
-}
-
 -- a number below n with P, the lowest of them
 pub record Found (P : ℕ → Type 0) (n : ℕ) : Type 0 where
   pub place : ℕ

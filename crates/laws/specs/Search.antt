@@ -1,10 +1,7 @@
 -- A search from the front: the lowest number with a property, or the number of places searched; none of the places passed has it.
-use mathlib.Core.Path.{_≡_}
-use mathlib.Core.Logic.{⊎-elim}
 use Prim.Native.Nat.{ℕ, _+_, _≤_, _<_}
 use native.Mathlib.Omega.{arith}
 use borrow.Author.Count.{below-none, below-more}
-use Rattle.laws.specs.Cases.{lt-or-le}
 use Rattle.laws.specs.Lowest.{None, Lowest}
 
 -- r is the lowest number below n with P, or n where none has it
@@ -20,16 +17,6 @@ module _ {P : ℕ → Type 0} {n r : ℕ} (h : LowestOr P n r) where
 
   pub lowest-or-none : n ≤ r → None P n
   lowest-or-none l k b = h .none-before k (omega arith)
-
-  pub lowest-or-least : {s : ℕ} → LowestOr P n s → r ≤ s
-  lowest-or-least {s} k =
-      ⊎-elim
-      (λ l. absurd (h .none-before s l (k .found (omega (arith, h .within)))))
-      (λ l. l)
-      (lt-or-le s r)
-
-pub lowest-or-one : {P : ℕ → Type 0} {n r s : ℕ} → LowestOr P n r → LowestOr P n s → r ≡ s
-lowest-or-one a b = omega (arith, lowest-or-least a b, lowest-or-least b a)
 
 -- the search stands at i, at most n, and passed no place with P
 pub record Passed (P : ℕ → Type 0) (n i : ℕ) : Type 0 where

@@ -1,5 +1,5 @@
 -- The sum of f over 0 .. n - 1, and its laws. A count is a sum of marks. Assumes nothing.
-use mathlib.Core.Path.{_≡_, refl, sym, ap}
+use mathlib.Core.Path.{_≡_, refl, ap}
 use mathlib.Core.Logic.{⊎-elim}
 use Prim.Native.Nat.{ℕ, zero, suc, _+_, _*_, _≤_, _<_, zero-le}
 use native.Mathlib.Nat.{eq-or-lt-of-le, le-of-suc-le-suc, not-suc-le-zero, mul-suc}
@@ -54,12 +54,6 @@ pub sum-add : (f g : ℕ → ℕ) (n : ℕ) → sum (λ i. f i + g i) n ≡ sum 
 unfolding sum
 sum-add f g zero = refl
 sum-add f g (suc n) = omega (arith, sum-add f g n)
-
--- two sums change places
-pub sum-swap : (f : ℕ → ℕ → ℕ) (n m : ℕ) → sum (λ i. sum (f i) m) n ≡ sum (λ j. sum (λ i. f i j) n) m
-unfolding sum
-sum-swap f zero m = sym (sum-zero (λ j. sum (λ i. f i j) zero) m (λ j l. refl))
-sum-swap f (suc n) m = omega (arith, sum-swap f n m, sum-add (f n) (λ j. sum (λ i. f i j) n) m)
 
 -- one term more, as code counts
 pub sum-step : (f : ℕ → ℕ) (n : ℕ) → sum f (n + 1) ≡ f n + sum f n

@@ -7,10 +7,11 @@ use native.Mathlib.Omega.{arith}
 use lib.ListN.{length}
 use Rattle.model.specs.Graph.{Graph, order, many, Sound}
 use Rattle.model.specs.Refusals.{Rule, First, shape, output, unitless, cyclic}
-use Rattle.model.specs.RefusalLaws.{first-none-append, room-enough, sound, own-not, front-unit-never}
+use Rattle.theory.specs.refusals.FirstRefusal.{first-none-append, front-unit-never}
+use Rattle.theory.specs.refusals.SoundGraph.{room-enough, sound, own-not}
 use Rattle.model.specs.Answers.{refusalOf, numbered}
-use Rattle.model.specs.AnswerLaws.{first-told, refused-passes}
-use Rattle.model.specs.FrameLaws.{refused-stays, answered-refused, answered-passed}
+use Rattle.theory.specs.refusals.RefusalNumbers.{first-told, refused-passes}
+use Rattle.theory.specs.refusals.RowAfterwards.{refused-stays, answered-refused, answered-passed}
 use Rattle.model.specs.declared.Answer.{Answer}
 use Rattle.model.specs.declared.Answer.the-variants.{Done, Refused}
 use Rattle.model.specs.declared.Refusal.{Refusal}

@@ -9,10 +9,12 @@ use Rattle.model.specs.Limits as limit
 use Rattle.model.specs.Order.{Closed}
 use Rattle.model.specs.Graph.{Graph, order, many}
 use Rattle.model.specs.Tables.{Earliest, Latency, Mobility}
-use Rattle.model.specs.TableLaws.{earliest-same, latest-same, latency-within, not-late, asap-alap, mobility-one}
+use Rattle.theory.specs.tables.KeepingStarts.{earliest-same, latest-same}
+use Rattle.theory.specs.tables.LatestTurned.{latency-within, not-late, asap-alap}
+use Rattle.theory.specs.tables.OneTable.{mobility-one}
 use Rattle.model.specs.Refusals.{First, large-bound, late-bound}
-use Rattle.model.specs.RefusalLaws.{first-hit, first-pass, first-says, first-silent, first-end, flat-says, flat-silent}
-use Rattle.model.specs.AnswerLaws.{refused-passes}
+use Rattle.theory.specs.refusals.FirstRefusal.{first-hit, first-pass, first-says, first-silent, first-end, flat-says, flat-silent}
+use Rattle.theory.specs.refusals.RefusalNumbers.{refused-passes}
 use Rattle.model.specs.Listing.{product, ManyWindows}
 use Rattle.model.specs.declared.Answer.the-variants.{Done, Refused}
 use Rattle.model.specs.declared.Refusal.the-variants.{BoundTooLarge, BoundTooSmall, TooManyWindows}

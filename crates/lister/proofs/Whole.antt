@@ -17,8 +17,8 @@ use Rattle.laws.specs.WordLaws.{same-none, same-sym, before-same}
 use Rattle.model.specs.Graph.{order, many, typeOf, Sound}
 use Rattle.model.specs.Tables.{Earliest, Latest}
 use Rattle.model.specs.Use.{runs, Lawful}
-use Rattle.model.specs.UseLaws.{runs-true, runningFirst}
-use Rattle.model.specs.LawfulLaws.{lawful-in-window}
+use Rattle.theory.specs.unit_use.RunningAndPeak.{runs-true, runningFirst}
+use Rattle.theory.specs.lister.Windows.{lawful-in-window}
 use Rattle.model.specs.Listing.{Later, Least, NoneLeft, Gives}
 use Rattle.model.specs.declared.Listed.{Listed}
 use Rattle.running.specs.InUse.{in-use-is}

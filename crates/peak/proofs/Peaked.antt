@@ -12,7 +12,7 @@ use Rattle.laws.specs.Rows.{at, blank}
 use Rattle.model.specs.Limits as limit
 use Rattle.model.specs.Graph.{Graph, many, typeOf}
 use Rattle.model.specs.Use.{running}
-use Rattle.model.specs.UseLaws.{AtStarts, Met, peak-starts}
+use Rattle.theory.specs.unit_use.RunningAndPeak.{AtStarts, Met, peak-starts}
 use Rattle.peak.specs.Peaking.{AllPeaks}
 
 -- p is the largest count of type k at the starts of the first i operations

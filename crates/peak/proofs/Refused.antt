@@ -9,7 +9,8 @@ use lib.Dec.{eqb}
 use lib.ListN.{length}
 use Rattle.model.specs.Graph.{Graph, many, lent}
 use Rattle.model.specs.Refusals.{First, shape}
-use Rattle.model.specs.RefusalLaws.{first-none-append, shape-test-then, own-equal, sound}
+use Rattle.theory.specs.refusals.FirstRefusal.{first-none-append}
+use Rattle.theory.specs.refusals.SoundGraph.{shape-test-then, own-equal, sound}
 use Rattle.model.specs.Verdicts.{peakChecks}
 use Rattle.peak.specs.Peaking.{Countable}
 

@@ -7,10 +7,10 @@ use Rattle.laws.specs.Rows.{same-row}
 use Rattle.model.specs.Graph.{Graph}
 use Rattle.model.specs.Refusals.{First}
 use Rattle.model.specs.Answers.{refusalOf}
-use Rattle.model.specs.AnswerLaws.{answer-one}
-use Rattle.model.specs.UseLaws.{peak-one}
+use Rattle.theory.specs.refusals.RefusalNumbers.{answer-one}
+use Rattle.theory.specs.unit_use.RunningAndPeak.{peak-one}
 use Rattle.model.specs.Verdicts.{PeakAnswer, peakChecks}
-use Rattle.model.specs.VerdictLaws.{peak-answer-one, peak-ones}
+use Rattle.theory.specs.unit_use.OneVerdict.{peak-answer-one, peak-ones}
 use Rattle.model.specs.declared.Answer.{Answer}
 use Rattle.model.specs.declared.Peaks.{Peaks}
 use Rattle.peak.specs.Peaking.{AllPeaks}

@@ -12,10 +12,10 @@ use Rattle.laws.specs.Rows.{over, same-row, over-long, over-front}
 use Rattle.model.specs.Limits as limit
 use Rattle.model.specs.Graph.{Graph}
 use Rattle.model.specs.Refusals.{First, shape}
-use Rattle.model.specs.RefusalLaws.{shape-own}
+use Rattle.theory.specs.refusals.SoundGraph.{shape-own}
 use Rattle.model.specs.Answers.{refusalOf}
-use Rattle.model.specs.RuleLaws.{stepped-long}
-use Rattle.model.specs.ScheduleLaws.{all-or-not}
+use Rattle.theory.specs.list.OneStep.{stepped-long}
+use Rattle.theory.specs.list.OneListAnswer.{all-or-not}
 use Rattle.model.specs.Scheduling.{AdvanceAnswer, StateAfter}
 use Rattle.model.specs.declared.Answer.{Answer}
 use Rattle.pedal.specs.Face.{MoveSaid, filledOf}

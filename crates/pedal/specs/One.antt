@@ -9,17 +9,17 @@ use Rattle.laws.specs.Cases.{same-or-not}
 use Rattle.model.specs.Limits as limit
 use Rattle.model.specs.Graph.{Graph}
 use Rattle.model.specs.Refusals.{shape}
-use Rattle.model.specs.RefusalLaws.{shape-ones}
+use Rattle.theory.specs.refusals.OneRefusal.{shape-ones}
 use Rattle.model.specs.Answers.{AsapAnswer, AlapAnswer, MobilityAnswer, refusalOf}
-use Rattle.model.specs.AnswerLaws.{refusal-one, answer-one}
-use Rattle.model.specs.TableAnswers.{asap-answer-one, alap-answer-one, mobility-answer-one}
+use Rattle.theory.specs.refusals.RefusalNumbers.{refusal-one, answer-one}
+use Rattle.theory.specs.tables.OneTableAnswer.{asap-answer-one, alap-answer-one, mobility-answer-one}
 use Rattle.model.specs.Scheduling.{ListAnswer}
-use Rattle.model.specs.ScheduleLaws.{list-answer-one, advance-answer-one}
+use Rattle.theory.specs.list.OneListAnswer.{list-answer-one, advance-answer-one}
 use Rattle.model.specs.Verdicts.{Checked, PeakAnswer}
 use Rattle.model.specs.Listing.{ListerAnswer}
-use Rattle.model.specs.ListingAnswers.{lister-answer-one}
+use Rattle.theory.specs.lister.OneListerAnswer.{lister-answer-one}
 use Rattle.model.specs.Views.{Table}
-use Rattle.model.specs.ViewLaws.{view-refusal-one}
+use Rattle.theory.specs.views.OneView.{view-refusal-one}
 use Rattle.units.specs.One.{check-one}
 use Rattle.peak.specs.One.{peak-use-one}
 use Rattle.pedal.specs.Face.{HandsOn, filledOf, plannedOf, judgedOf, givenOf, peakedOf, movedOf, PartSaid, MoveSaid}

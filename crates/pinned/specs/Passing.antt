@@ -15,10 +15,12 @@ use Rattle.model.specs.Limits as limit
 use Rattle.model.specs.Order.{Order, Closed}
 use Rattle.model.specs.Graph.{Graph, order, many, edgesOf, delay, typeOf, Sound}
 use Rattle.model.specs.Tables.{Keeps, Within, Mobility}
-use Rattle.model.specs.TableLaws.{keeps-acyclic, mobility-one}
-use Rattle.model.specs.CycleLaws.{shown-cyclic}
+use Rattle.theory.specs.tables.KeepingStarts.{keeps-acyclic}
+use Rattle.theory.specs.tables.OneTable.{mobility-one}
+use Rattle.theory.specs.cycle.SomeShown.{shown-cyclic}
 use Rattle.model.specs.Refusals.{Rule, First, Flat, Late, shape, output, unitless, cyclic, large-bound, late-bound}
-use Rattle.model.specs.RefusalLaws.{first-pass, first-says, first-silent, first-end, flat-says, flat-silent, at-lowest-silent, not-large, not-uneven, good-operation, good-edge, shape-silent, closed}
+use Rattle.theory.specs.refusals.FirstRefusal.{first-pass, first-says, first-silent, first-end, flat-says, flat-silent, at-lowest-silent}
+use Rattle.theory.specs.refusals.SoundGraph.{not-large, not-uneven, good-operation, good-edge, shape-silent, closed}
 use Rattle.model.specs.Listing.{product, ManyWindows, ListerUneven, listerChecks}
 
 -- within the limits, rows that match, and every entry in its range: `Sound`, as a test

@@ -10,15 +10,16 @@ use denote.Ref.{now, ptr}
 use Rattle.laws.specs.Cases.{none-some}
 use Rattle.laws.specs.Rows.{at}
 use Rattle.model.specs.Answers.{AsapAnswer, AlapAnswer, MobilityAnswer}
-use Rattle.model.specs.TableAnswers.{asap-answer-one, alap-answer-one, mobility-answer-one}
+use Rattle.theory.specs.tables.OneTableAnswer.{asap-answer-one, alap-answer-one, mobility-answer-one}
 use Rattle.model.specs.Scheduling.{ListAnswer, AdvanceAnswer}
-use Rattle.model.specs.ScheduleLaws.{list-answer-one, advance-answer-one}
+use Rattle.theory.specs.list.OneListAnswer.{list-answer-one, advance-answer-one}
 use Rattle.model.specs.Verdicts.{Checked, PeakAnswer}
-use Rattle.model.specs.VerdictLaws.{checked-one, peak-answer-one}
+use Rattle.theory.specs.unit_use.OneVerdict.{checked-one, peak-answer-one}
 use Rattle.model.specs.Listing.{ListerAnswer}
-use Rattle.model.specs.ListingAnswers.{lister-answer-one}
+use Rattle.theory.specs.lister.OneListerAnswer.{lister-answer-one}
 use Rattle.model.specs.Views.{Table, PartOf, Viewed, ViewRefusal}
-use Rattle.model.specs.ViewLaws.{Available, passes, view-long, view-refusal-one, not-the-other}
+use Rattle.theory.specs.views.OneView.{Available, passes, view-refusal-one}
+use Rattle.theorems.specs.Views.{view-long, not-the-other}
 use Rattle.model.specs.declared.Refusal.{Refusal}
 use Rattle.model.specs.declared.Answer.{Answer}
 use Rattle.model.specs.declared.Answer.the-variants as answers

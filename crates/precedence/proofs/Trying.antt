@@ -6,11 +6,11 @@ use Prim.Native.Nat.{ℕ}
 use Rattle.model.specs.Order.{Order, size, Closed}
 use Rattle.model.specs.Placing.{Placing}
 use Rattle.model.specs.Refusals.{CycleOf}
-use Rattle.model.specs.RefusalLaws.{first-says, first-silent, first-end}
-use Rattle.model.specs.AnswerLaws.{refused-passes}
-use Rattle.model.specs.FrameLaws.{row-given, row-cycle}
-use Rattle.model.specs.PlacingLaws.{placing-kept, placing-free, placing-done, placing-acyclic}
-use Rattle.model.specs.CycleLaws.{shown-cyclic}
+use Rattle.theory.specs.refusals.FirstRefusal.{first-says, first-silent, first-end}
+use Rattle.theory.specs.refusals.RefusalNumbers.{refused-passes}
+use Rattle.theory.specs.refusals.RowAfterwards.{row-given, row-cycle}
+use Rattle.theory.specs.order.PlacingOutcome.{placing-kept, placing-free, placing-done, placing-acyclic}
+use Rattle.theory.specs.cycle.SomeShown.{shown-cyclic}
 use Rattle.model.specs.declared.Answer.the-variants.{Done, Refused}
 use Rattle.model.specs.declared.Refusal.the-variants.{Cycle}
 use Rattle.cycle.specs.Show.{KeptAt, Shows}

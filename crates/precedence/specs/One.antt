@@ -5,12 +5,12 @@ use Prim.Native.Nat.{ℕ}
 use Rattle.model.specs.Order.{Order, Closed}
 use Rattle.model.specs.Refusals.{First, cyclic}
 use Rattle.model.specs.Answers.{refusalOf}
-use Rattle.model.specs.AnswerLaws.{refusal-one}
-use Rattle.model.specs.RefusalLaws.{first-one}
-use Rattle.model.specs.FrameLaws.{answered-one}
-use Rattle.model.specs.CycleLaws.{shown-one}
-use Rattle.model.specs.PlacingLaws.{placing-one}
-use Rattle.model.specs.TableAnswers.{cyclic-ones}
+use Rattle.theory.specs.refusals.RefusalNumbers.{refusal-one}
+use Rattle.theory.specs.refusals.OneRefusal.{first-one}
+use Rattle.theory.specs.refusals.RowAfterwards.{answered-one}
+use Rattle.theory.specs.cycle.OneShown.{shown-one}
+use Rattle.theory.specs.order.PlacingOutcome.{placing-one}
+use Rattle.theory.specs.refusals.CycleAndBounds.{cyclic-ones}
 use Rattle.model.specs.declared.Answer.{Answer}
 use Rattle.precedence.specs.Tried.{Tried}
 

@@ -7,7 +7,7 @@ use Rattle.laws.specs.Cases.{lt-or-le}
 use Rattle.laws.specs.Rows.{same-row}
 use Rattle.model.specs.Order.{ordered}
 use Rattle.model.specs.Tables.{Latency}
-use Rattle.model.specs.LatencyLaws.{latency-one}
+use Rattle.theory.specs.tables.OneTable.{latency-one}
 use Rattle.rows.specs.Rows.{Differences}
 
 -- of `latency`

@@ -14,13 +14,14 @@ use Rattle.model.specs.Limits as limit
 use Rattle.model.specs.Order.{Order}
 use Rattle.model.specs.Graph.{Graph, Sound, order, many, lent}
 use Rattle.model.specs.Tables.{Latency}
-use Rattle.model.specs.TableLaws.{within-same}
+use Rattle.theory.specs.tables.KeepingStarts.{within-same}
 use Rattle.model.specs.Refusals.{Rule, First, Flat, shape, output, unitless, cyclic}
-use Rattle.model.specs.RefusalLaws.{closed, first-hit, first-pass, first-says, first-silent, first-end, first-none-append, flat-says, flat-silent, room-enough, front-unit-never}
+use Rattle.theory.specs.refusals.SoundGraph.{closed, room-enough}
+use Rattle.theory.specs.refusals.FirstRefusal.{first-hit, first-pass, first-says, first-silent, first-end, first-none-append, flat-says, flat-silent, front-unit-never}
 use Rattle.model.specs.Answers.{Answered, refusalOf}
-use Rattle.model.specs.FrameLaws.{row-given, row-is, answered-refused, refused-stays, answered-passed}
-use Rattle.model.specs.Progress.{Doable}
-use Rattle.model.specs.ScheduleLaws.{doable}
+use Rattle.theory.specs.refusals.RowAfterwards.{row-given, row-is, answered-refused, refused-stays, answered-passed}
+use Rattle.theory.specs.list.Progress.{Doable}
+use Rattle.theory.specs.list.OneListAnswer.{doable}
 use Rattle.model.specs.Scheduling.{listChecks, ListGiven, Outside, Moves, StateAfter, AdvanceAnswer}
 use Rattle.model.specs.declared.Answer.{Answer}
 use Rattle.rule.specs.declared.State.{State}

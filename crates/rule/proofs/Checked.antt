@@ -9,7 +9,8 @@ use lib.ListN.{length}
 use Rattle.model.specs.Order.{Closed}
 use Rattle.model.specs.Graph.{Graph, Sound, order}
 use Rattle.model.specs.Refusals.{First, shape, output, unitless}
-use Rattle.model.specs.RefusalLaws.{shape-test-then, own-equal, sound, closed, first-none-append}
+use Rattle.theory.specs.refusals.SoundGraph.{shape-test-then, own-equal, sound, closed}
+use Rattle.theory.specs.refusals.FirstRefusal.{first-none-append}
 use Rattle.rule.specs.Fronts.{listFront}
 
 module _ (g : Graph) (units : List ℕ) where

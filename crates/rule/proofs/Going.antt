@@ -11,12 +11,12 @@ use Rattle.model.specs.Limits as limit
 use Rattle.model.specs.Order.{Cyclic}
 use Rattle.model.specs.Graph.{Graph, many, order}
 use Rattle.model.specs.Rule.{Labels, stepped, AllPlaced, after}
-use Rattle.model.specs.RefusalLaws.{closed}
-use Rattle.model.specs.TableLaws.{keeps-acyclic}
-use Rattle.model.specs.LabelLaws.{labels-one}
-use Rattle.model.specs.RuleLaws.{stepped-long, rest-stays}
-use Rattle.model.specs.Progress.{Doable}
-use Rattle.model.specs.ListLaws.{stepped-same, after-stable, all-placed}
+use Rattle.theory.specs.refusals.SoundGraph.{closed}
+use Rattle.theory.specs.tables.KeepingStarts.{keeps-acyclic}
+use Rattle.theory.specs.list.LabelValues.{labels-one}
+use Rattle.theory.specs.list.OneStep.{stepped-long, rest-stays}
+use Rattle.theory.specs.list.Progress.{Doable}
+use Rattle.theory.specs.list.OneListSchedule.{stepped-same, after-stable, all-placed}
 use Rattle.model.specs.Scheduling.{Moves}
 use Rattle.step.specs.Priority.{Priority}
 use Rattle.rule.specs.Fronts.{Full, ListRow}

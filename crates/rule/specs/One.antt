@@ -6,9 +6,9 @@ use lib.ListN.{replicate}
 use Rattle.model.specs.Limits as limit
 use Rattle.model.specs.Graph.{Graph}
 use Rattle.model.specs.Answers.{refusalOf}
-use Rattle.model.specs.AnswerLaws.{refusal-one}
+use Rattle.theory.specs.refusals.RefusalNumbers.{refusal-one}
 use Rattle.model.specs.Scheduling.{AdvanceAnswer}
-use Rattle.model.specs.ScheduleLaws.{advance-answer-one}
+use Rattle.theory.specs.list.OneListAnswer.{advance-answer-one}
 use Rattle.model.specs.declared.Answer.{Answer}
 use Rattle.rule.specs.declared.State.{State}
 use Rattle.rule.specs.declared.Advanced.{Advanced}

@@ -12,7 +12,7 @@ ghost use Rattle.model.specs.Limits as limit;
 ghost use Rattle.model.specs.Graph.{lent};
 ghost use Rattle.model.specs.Refusals.{First};
 ghost use Rattle.model.specs.Answers.{refusalOf};
-ghost use Rattle.model.specs.Progress.{Doable};
+ghost use Rattle.theory.specs.list.Progress.{Doable};
 ghost use Rattle.model.specs.Scheduling.{Moves, ListAnswer, AdvanceAnswer};
 ghost use Rattle.rule.specs.Fronts.{advanceFront, listFront, Full, ListRow};
 ghost use Rattle.rule.specs.One.{Fresh, beside};

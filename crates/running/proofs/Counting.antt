@@ -6,7 +6,7 @@ use native.Mathlib.Omega.{arith}
 use Rattle.laws.specs.Rows.{at}
 use Rattle.laws.specs.Count.{bit, count-le, count-start, count-step}
 use Rattle.model.specs.Use.{runs}
-use Rattle.model.specs.RunLaws.{runsFor, runs-for}
+use Rattle.theory.specs.unit_use.RunningInNumbers.{runsFor, runs-for}
 use Rattle.running.specs.InUse.{users, inUse}
 
 -- of the first `first` operations those before i are counted

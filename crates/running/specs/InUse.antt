@@ -4,7 +4,7 @@ use mathlib.Core.List.{List, []}
 use Prim.Native.Nat.{ℕ}
 use Rattle.model.specs.Graph.{Graph}
 use Rattle.model.specs.Use.{runs}
-use Rattle.model.specs.UseLaws.{runningFirst}
+use Rattle.theory.specs.unit_use.RunningAndPeak.{runningFirst}
 
 -- what unit use reads of a graph
 abbrev pub users : List ℕ → List ℕ → Graph

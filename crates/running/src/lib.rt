@@ -3,7 +3,7 @@ ghost use mathlib.Core.Path.{_≡_};
 ghost use Prim.Native.Nat.{_+_, _≤_};
 ghost use lib.ListN.{length};
 ghost use Rattle.laws.specs.Count.{bit};
-ghost use Rattle.model.specs.RunLaws.{runsFor};
+ghost use Rattle.theory.specs.unit_use.RunningInNumbers.{runsFor};
 ghost use Rattle.running.specs.InUse.{inUse};
 
 // 1 if an operation of type `own` that starts at `start` and keeps its unit for `busy` steps is of type `kind` and running at `step`, else 0.

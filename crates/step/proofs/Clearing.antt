@@ -9,7 +9,7 @@ use Rattle.laws.specs.Rows.{at}
 use Rattle.laws.specs.Count.{bit}
 use Rattle.model.specs.Graph.{Graph, edgesOf}
 use Rattle.model.specs.Rule.{candidate}
-use Rattle.model.specs.RuleLaws.{candidate-is, is-candidate}
+use Rattle.theory.specs.list.OneStep.{candidate-is, is-candidate}
 use Rattle.links.specs.Walking.{Passed, passed-end}
 
 -- the edge leaves an operation that is over

@@ -19,7 +19,7 @@ use Rattle.model.specs.Order.{source}
 use Rattle.model.specs.Graph.{Graph, Sound, order, many, typeOf}
 use Rattle.model.specs.Use.{runs}
 use Rattle.model.specs.Rule.{candidate, inUse, ahead, candidatesAhead, startsNow, pickStart, stepped}
-use Rattle.model.specs.RuleLaws.{Over, uses, candidate-is, is-candidate, ahead-linear, starts-is, is-starts, starts-unplaced, stepped-long, starts-at, stays-at, rest-stays, typed, Front, front-filled, starter, is-starter}
+use Rattle.theory.specs.list.OneStep.{Over, uses, candidate-is, is-candidate, ahead-linear, starts-is, is-starts, starts-unplaced, stepped-long, starts-at, stays-at, rest-stays, typed, Front, front-filled, starter, is-starter}
 use Rattle.model.specs.Scheduling.{Moves}
 use Rattle.step.specs.Tally.{Tally}
 use Rattle.step.specs.Turn.{usesAt}

@@ -9,13 +9,14 @@ use lib.ListN.{length}
 use Rattle.model.specs.Limits as limit
 use Rattle.model.specs.Graph.{Graph, order, many, Sound}
 use Rattle.model.specs.Tables.{Latency}
-use Rattle.model.specs.TableLaws.{latency-within, not-late}
+use Rattle.theory.specs.tables.LatestTurned.{latency-within, not-late}
 use Rattle.model.specs.Refusals.{Rule, First, shape, output, cyclic, large-bound, late-bound, asapChecks, alapChecks}
-use Rattle.model.specs.RefusalLaws.{first-none-append, first-pass, first-hit, first-says, first-silent, first-end, flat-says, flat-silent, shape-own-then, room-enough, sound, closed, Never, never-append, front-never}
+use Rattle.theory.specs.refusals.FirstRefusal.{first-none-append, first-pass, first-hit, first-says, first-silent, first-end, flat-says, flat-silent, Never, never-append, front-never}
+use Rattle.theory.specs.refusals.SoundGraph.{shape-own-then, room-enough, sound, closed}
 use Rattle.model.specs.Answers.{refusalOf, numbered, Answered}
-use Rattle.model.specs.AnswerLaws.{first-told, refused-passes}
-use Rattle.model.specs.FrameLaws.{refused-stays, answered-refused, answered-passed, row-is, row-given}
-use Rattle.model.specs.TableAnswers.{large-bound-never, late-bound-never}
+use Rattle.theory.specs.refusals.RefusalNumbers.{first-told, refused-passes}
+use Rattle.theory.specs.refusals.RowAfterwards.{refused-stays, answered-refused, answered-passed, row-is, row-given}
+use Rattle.theory.specs.refusals.CycleAndBounds.{large-bound-never, late-bound-never}
 use Rattle.model.specs.declared.Answer.{Answer}
 use Rattle.model.specs.declared.Answer.the-variants.{Done, Refused}
 use Rattle.model.specs.declared.Refusal.{Refusal}

@@ -10,11 +10,12 @@ use Rattle.model.specs.Limits as limit
 use Rattle.model.specs.Order.{Order, Closed}
 use Rattle.model.specs.Graph.{Graph, order, many, Sound}
 use Rattle.model.specs.Tables.{Earliest, Latest, Asap, Alap, Mobility}
-use Rattle.model.specs.TableLaws.{earliest-same, latest-same, asap-alap}
+use Rattle.theory.specs.tables.KeepingStarts.{earliest-same, latest-same}
+use Rattle.theory.specs.tables.LatestTurned.{asap-alap}
 use Rattle.model.specs.Refusals.{Rule, asapChecks, alapChecks}
-use Rattle.model.specs.RefusalLaws.{closed}
+use Rattle.theory.specs.refusals.SoundGraph.{closed}
 use Rattle.model.specs.Answers.{numbered, Answered, Fills, AsapAnswer, AlapAnswer, MobilityAnswer}
-use Rattle.model.specs.FrameLaws.{answered-again, row-is, row-given}
+use Rattle.theory.specs.refusals.RowAfterwards.{answered-again, row-is, row-given}
 use Rattle.model.specs.declared.Answer.{Answer}
 use Rattle.model.specs.declared.Answer.the-variants.{Done, Refused}
 use Rattle.model.specs.declared.Refusal.{Refusal}

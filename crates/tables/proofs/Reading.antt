@@ -12,9 +12,10 @@ use Rattle.model.specs.Limits as limit
 use Rattle.model.specs.Order.{Order, turned, size, weight, Closed}
 use Rattle.model.specs.Placing.{Placing}
 use Rattle.model.specs.Tables.{Keeps, Earliest}
-use Rattle.model.specs.RefusalLaws.{closed-turned}
-use Rattle.model.specs.PlacingLaws.{placing-done, placing-cyclic}
-use Rattle.model.specs.TableLaws.{latest-turned, mirror, mirror-at, mirror-keeps, keeps-acyclic}
+use Rattle.theory.specs.refusals.SoundGraph.{closed-turned}
+use Rattle.theory.specs.order.PlacingOutcome.{placing-done, placing-cyclic}
+use Rattle.theory.specs.tables.LatestTurned.{latest-turned, mirror, mirror-at, mirror-keeps}
+use Rattle.theory.specs.tables.KeepingStarts.{keeps-acyclic}
 use Rattle.tables.specs.Begun.{Room, LatestRow}
 
 -- what a start within the bound is made of, from the start turned round

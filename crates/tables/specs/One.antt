@@ -6,8 +6,8 @@ use Prim.Native.Nat.{ℕ}
 use Rattle.laws.specs.Cases.{lt-or-le}
 use Rattle.laws.specs.Rows.{same-row}
 use Rattle.model.specs.Order.{Order, size}
-use Rattle.model.specs.TableLaws.{latest-one}
-pub use Rattle.model.specs.TableAnswers.{asap-answer-one, alap-answer-one, mobility-answer-one}
+use Rattle.theory.specs.tables.OneTable.{latest-one}
+pub use Rattle.theory.specs.tables.OneTableAnswer.{asap-answer-one, alap-answer-one, mobility-answer-one}
 use Rattle.tables.specs.Begun.{LatestRow}
 
 -- any two rows that the contract of `latest` allows are equal

@@ -9,7 +9,7 @@ use Rattle.laws.specs.Search.{LowestOr, lowest-or-lowest, lowest-or-none}
 use Rattle.model.specs.Graph.{Graph, lent, many, edgesOf}
 use Rattle.model.specs.Faults as fault
 use Rattle.model.specs.Verdicts.{Finds}
-use Rattle.model.specs.VerdictLaws.{timely-starts, timely-ends, faultless-lawful}
+use Rattle.theory.specs.unit_use.OneVerdict.{timely-starts, timely-ends, faultless-lawful}
 use Rattle.model.specs.declared.Finding.{Finding}
 use Rattle.model.specs.declared.Finding.the-variants as found
 use Rattle.units.specs.Findings.{Tallyable, Overs, Askable, Settled}

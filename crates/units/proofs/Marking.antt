@@ -11,7 +11,7 @@ use Rattle.laws.specs.Cases.{same-or-not, lt-or-le}
 use Rattle.laws.specs.Rows.{at}
 use Rattle.laws.specs.Count.{bit}
 use Rattle.model.specs.Limits as limit
-use Rattle.model.specs.RunLaws.{runsFor, for-other, for-early, for-over, for-runs, for-end}
+use Rattle.theory.specs.unit_use.RunningInNumbers.{runsFor, for-other, for-early, for-over, for-runs, for-end}
 use Rattle.units.specs.Tally.{cell, Markable, Marked}
 
 -- what the tally is after the steps to before `step`, none of them past the last

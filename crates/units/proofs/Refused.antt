@@ -12,7 +12,8 @@ use Rattle.laws.specs.Tests.{off}
 use Rattle.model.specs.Limits as limit
 use Rattle.model.specs.Graph.{Graph, order, many, Sound}
 use Rattle.model.specs.Refusals.{Rule, First, shape, unitless, cyclic, large-bound}
-use Rattle.model.specs.RefusalLaws.{first-hit, first-pass, first-none-append, flat-not, shape-own-then, own-not, sound}
+use Rattle.theory.specs.refusals.FirstRefusal.{first-hit, first-pass, first-none-append, flat-not}
+use Rattle.theory.specs.refusals.SoundGraph.{shape-own-then, own-not, sound}
 use Rattle.model.specs.Verdicts.{CheckUneven, checkChecks}
 use Rattle.units.specs.Findings.{Askable}
 

@@ -7,13 +7,12 @@ use native.Mathlib.Omega.{arith}
 use lib.ListN.{length, replicate, length-replicate}
 use Rattle.laws.specs.Cases.{lt-or-le, le-or-lt}
 use Rattle.laws.specs.Rows.{at, blank}
-use Rattle.laws.specs.Count.{bit, count, count-le}
-use Rattle.laws.specs.Count.{count-step, count-start}
+use Rattle.laws.specs.Count.{bit, count, count-le, count-step, count-start}
 use Rattle.model.specs.Limits as limit
 use Rattle.model.specs.Graph.{Graph, many, typeOf, busyTime}
 use Rattle.model.specs.Use.{runs, running}
-use Rattle.model.specs.UseLaws.{running-none}
-use Rattle.model.specs.RunLaws.{runs-for}
+use Rattle.theory.specs.unit_use.RunningAndPeak.{running-none}
+use Rattle.theory.specs.unit_use.RunningInNumbers.{runs-for}
 use Rattle.model.specs.Faults as fault
 use Rattle.model.specs.declared.Finding.{Finding}
 use Rattle.model.specs.declared.Finding.the-variants as found

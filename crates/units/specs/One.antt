@@ -5,9 +5,9 @@ use Prim.Native.Nat.{ℕ}
 use Rattle.model.specs.Graph.{Graph}
 use Rattle.model.specs.Refusals.{First}
 use Rattle.model.specs.Answers.{refusalOf}
-use Rattle.model.specs.AnswerLaws.{answer-one}
+use Rattle.theory.specs.refusals.RefusalNumbers.{answer-one}
 use Rattle.model.specs.Verdicts.{Checked, checkChecks}
-use Rattle.model.specs.VerdictLaws.{checked-one, check-ones, finds-one}
+use Rattle.theory.specs.unit_use.OneVerdict.{checked-one, check-ones, finds-one}
 use Rattle.model.specs.declared.Answer.{Answer}
 use Rattle.model.specs.declared.Finding.{Finding}
 use Rattle.model.specs.declared.Verdict.{Verdict}

@@ -8,7 +8,7 @@ use Rattle.laws.specs.Count.{bit, count}
 use Rattle.model.specs.Limits as limit
 use Rattle.model.specs.Graph.{Graph, many}
 use Rattle.model.specs.Use.{runs}
-use Rattle.model.specs.RunLaws.{runsFor}
+use Rattle.theory.specs.unit_use.RunningInNumbers.{runsFor}
 use Rattle.model.specs.declared.Finding.{Finding}
 use Rattle.model.specs.declared.Finding.the-variants as found
 

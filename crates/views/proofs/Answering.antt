@@ -9,7 +9,7 @@ use denote.Ref.{now}
 use Rattle.laws.specs.Cases.{le-or-lt}
 use Rattle.model.specs.Views.{Table, chosen, viewChecks, PartOf, PartAfter, Viewed, numberOr0, ViewRefusal}
 use Rattle.model.specs.Refusals.{First}
-use Rattle.model.specs.ViewLaws.{Named, passes, refuses-channel, refuses-range}
+use Rattle.theory.specs.views.OneView.{Named, passes, refuses-channel, refuses-range}
 use Rattle.views.specs.Part.{PartIn, RangeRefusal}
 
 -- what the checks say, with what goes by it

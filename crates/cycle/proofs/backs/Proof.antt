@@ -6,7 +6,7 @@ use lib.ListN.{length}
 use Rattle.model.specs.Limits as limit
 use Rattle.laws.specs.Rows.{at}
 use native.Mathlib.Nat.{le-antisymm}
-use Rattle.model.specs.CycleLaws.Backs.{Backed, backed-none, backed-step}
+use Rattle.theory.specs.cycle.LowestPredecessors.{Backed, backed-none, backed-step}
 use Rattle.cycle.specs.Parts.{Blank}
 use Rattle.cycle.proofs.backs.Statement.{statement}
 use Rattle.cycle.proofs.backs.Tie as tie

@@ -3,7 +3,7 @@ use Prim.Native.Nat.{_-_, _≤_}
 use native.Mathlib.Omega.{arith}
 use borrow.Author.Needs.{needs}
 use native.Mathlib.Nat.{le-antisymm}
-use Rattle.model.specs.CycleLaws.Writes.{Least, least-none, least-step}
+use Rattle.theory.specs.cycle.WritingTheCycle.{Least, least-none, least-step}
 use Rattle.cycle.proofs.lowest.Statement.{statement}
 use Rattle.cycle.proofs.lowest.Tie as tie
 

@@ -1,7 +1,7 @@
 -- `cycle::place` meets its contract: each branch is one case of `Turned`.
 use native.Mathlib.Omega.{arith}
 use borrow.Author.Needs.{needs}
-use Rattle.model.specs.CycleLaws.Turns.{on, around}
+use Rattle.theory.specs.cycle.TurnedRound.{on, around}
 use Rattle.cycle.proofs.place.Statement.{statement}
 use Rattle.cycle.proofs.place.Tie as tie
 

@@ -3,8 +3,8 @@ use Prim.Native.Nat.{_-_, _<_}
 use native.Mathlib.Omega.{arith}
 use borrow.Author.Needs.{needs}
 use Rattle.model.specs.Limits as limit
-use Rattle.model.specs.CycleLaws.Places.{places-low}
-use Rattle.model.specs.CycleLaws.Walks.{Walking, walking-none, walking-inside, walking-room, walking-step, walking-end}
+use Rattle.theory.specs.cycle.PlacesMet.{places-low}
+use Rattle.theory.specs.cycle.WalkUntilMetAgain.{Walking, walking-none, walking-inside, walking-room, walking-step, walking-end}
 use Rattle.cycle.proofs.walk.Statement.{statement}
 use Rattle.cycle.proofs.walk.Tie as tie
 

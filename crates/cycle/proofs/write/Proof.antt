@@ -4,8 +4,8 @@ use mathlib.Core.Path.{refl}
 use native.Mathlib.Omega.{arith}
 use borrow.Author.Needs.{needs}
 use Rattle.model.specs.Limits as limit
-use Rattle.model.specs.CycleLaws.Writes.{Wrote, wrote-none, wrote-step}
-use Rattle.model.specs.CycleLaws.Turns.{turned-inside}
+use Rattle.theory.specs.cycle.WritingTheCycle.{Wrote, wrote-none, wrote-step}
+use Rattle.theory.specs.cycle.TurnedRound.{turned-inside}
 use native.Mathlib.Nat.{le-antisymm}
 use Rattle.cycle.proofs.write.Statement.{statement}
 use Rattle.cycle.proofs.write.Tie as tie

@@ -1,8 +1,8 @@
 -- `front` answers by the first of the rules 1 to 5 that applies: what the first four say, or else the fifth.
 use native.Mathlib.Omega.{arith}
 use borrow.Author.Needs.{needs}
-use Rattle.model.specs.AnswerLaws.{first-told}
-use Rattle.model.specs.RefusalLaws.{first-hit, first-pass, first-says, first-silent, first-end, flat-says, flat-silent}
+use Rattle.theory.specs.refusals.RefusalNumbers.{first-told}
+use Rattle.theory.specs.refusals.FirstRefusal.{first-hit, first-pass, first-says, first-silent, first-end, flat-says, flat-silent}
 use Rattle.graph.proofs.front.Statement.{statement}
 use Rattle.graph.proofs.front.Tie as tie
 

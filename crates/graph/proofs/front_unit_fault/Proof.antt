@@ -1,7 +1,7 @@
 -- `front_unit_fault` answers by the first of the rules 1 to 6 that applies: what the first five say, or else the sixth.
 use borrow.Author.Needs.{needs}
-use Rattle.model.specs.AnswerLaws.{first-told}
-use Rattle.model.specs.RefusalLaws.{first-hit, first-pass}
+use Rattle.theory.specs.refusals.RefusalNumbers.{first-told}
+use Rattle.theory.specs.refusals.FirstRefusal.{first-hit, first-pass}
 use Rattle.graph.proofs.Manned.{manned-front}
 use Rattle.graph.proofs.front_unit_fault.Statement.{statement}
 use Rattle.graph.proofs.front_unit_fault.Tie as tie

@@ -1,6 +1,6 @@
 -- `graph_fault` answers by the first of the rules 1 to 4 that applies: where it comes to a test, the rules before say nothing.
 use borrow.Author.Needs.{needs}
-use Rattle.model.specs.RefusalLaws.{even-types, even-ends, large-says, uneven-says, operation-says, edge-says, shape-silent}
+use Rattle.theory.specs.refusals.SoundGraph.{even-types, even-ends, large-says, uneven-says, operation-says, edge-says, shape-silent}
 use Rattle.laws.specs.Search.{lowest-or-lowest, lowest-or-none}
 use Rattle.graph.proofs.graph_fault.Statement.{statement}
 use Rattle.graph.proofs.graph_fault.Tie as tie

@@ -5,7 +5,7 @@ use borrow.Author.Needs.{needs}
 use lib.ListN.{length}
 use Rattle.model.specs.Graph.{lent}
 use Rattle.model.specs.Refusals.{BadOperation}
-use Rattle.model.specs.RefusalLaws.{good-operation}
+use Rattle.theory.specs.refusals.SoundGraph.{good-operation}
 use Rattle.laws.specs.Search.{Passed, passed-none, passed-step, passed-found, passed-end}
 use mathlib.Core.List.{List}
 use Rattle.graph.proofs.operation_fault.Statement.{statement}

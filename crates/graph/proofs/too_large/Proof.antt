@@ -2,7 +2,7 @@
 use native.Mathlib.Omega.{arith}
 use Rattle.laws.specs.Cases.{tells-yes, tells-no}
 use Rattle.model.specs.Refusals.{Large}
-use Rattle.model.specs.RefusalLaws.{not-large}
+use Rattle.theory.specs.refusals.SoundGraph.{not-large}
 use Rattle.graph.proofs.too_large.Statement.{statement}
 use Rattle.graph.proofs.too_large.Tie as tie
 

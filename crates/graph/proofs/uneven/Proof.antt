@@ -2,7 +2,7 @@
 use mathlib.Core.Path.{sym, _∙_}
 use Rattle.laws.specs.Cases.{tells-yes, tells-no}
 use Rattle.model.specs.Refusals.{Uneven}
-use Rattle.model.specs.RefusalLaws.{not-uneven}
+use Rattle.theory.specs.refusals.SoundGraph.{not-uneven}
 use mathlib.Core.Bool.{true≢false}
 use Rattle.graph.proofs.uneven.Statement.{statement}
 use Rattle.graph.proofs.uneven.Tie as tie

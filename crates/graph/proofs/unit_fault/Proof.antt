@@ -1,7 +1,7 @@
 -- `unit_fault` answers by rule 6, from the lowest type in use that has no unit.
 use native.Mathlib.Omega.{arith}
 use borrow.Author.Needs.{needs}
-use Rattle.model.specs.RefusalLaws.{first-says, first-silent, first-end, at-lowest-says, at-lowest-silent}
+use Rattle.theory.specs.refusals.FirstRefusal.{first-says, first-silent, first-end, at-lowest-says, at-lowest-silent}
 use Rattle.laws.specs.Search.{lowest-or-lowest, lowest-or-none}
 use Rattle.graph.proofs.unit_fault.Statement.{statement}
 use Rattle.graph.proofs.unit_fault.Tie as tie

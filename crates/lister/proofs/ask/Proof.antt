@@ -2,7 +2,7 @@
 use borrow.Author.Needs.{needs}
 use mathlib.Core.Path.{ap}
 use Rattle.model.specs.Answers.{refusalOf}
-use Rattle.model.specs.RefusalLaws.{closed}
+use Rattle.theory.specs.refusals.SoundGraph.{closed}
 use Rattle.lister.proofs.Asking.{ask-refused, ask-bounded, ask-sized, ask-sought}
 use Rattle.lister.proofs.ask.Statement.{statement}
 use Rattle.lister.proofs.ask.Tie as tie

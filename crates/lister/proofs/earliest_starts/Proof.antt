@@ -1,6 +1,6 @@
 -- `lister::earliest_starts` meets its contract: refusals 1 to 6 of `front_unit_fault`, 7 of `place`.
 use borrow.Author.Needs.{needs}
-use Rattle.model.specs.RefusalLaws.{closed}
+use Rattle.theory.specs.refusals.SoundGraph.{closed}
 use Rattle.lister.proofs.Beginning.{begun-refused, begun-sound, begun-room, begun-placed}
 use Rattle.lister.proofs.earliest_starts.Statement.{statement}
 use Rattle.lister.proofs.earliest_starts.Tie as tie

@@ -1,6 +1,7 @@
 -- `peak::peak_fault` meets its contract: the rules are asked in the table's order.
-use Rattle.model.specs.AnswerLaws.{first-told}
-use Rattle.model.specs.RefusalLaws.{first-hit, first-pass, sound, closed}
+use Rattle.theory.specs.refusals.RefusalNumbers.{first-told}
+use Rattle.theory.specs.refusals.FirstRefusal.{first-hit, first-pass}
+use Rattle.theory.specs.refusals.SoundGraph.{sound, closed}
 use Rattle.peak.proofs.Refused.{peak-shape}
 use borrow.Author.Needs.{needs}
 use Rattle.peak.proofs.peak_fault.Statement.{statement}

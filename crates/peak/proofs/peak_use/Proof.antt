@@ -1,6 +1,6 @@
 -- `peak::peak_use` meets its contract: refused, the numbers are zeros; else each is its type's peak.
 use mathlib.Core.Path.{refl}
-use Rattle.model.specs.AnswerLaws.{first-told}
+use Rattle.theory.specs.refusals.RefusalNumbers.{first-told}
 use Rattle.model.specs.Verdicts.{Counts}
 use Rattle.peak.proofs.Refused.{peak-countable}
 use borrow.Author.Needs.{needs}

@@ -1,5 +1,5 @@
 -- `place` meets its contract: the two outcomes of `earliest` are the two of refusal 7.
-use Rattle.model.specs.PlacingLaws.{placing-cyclic}
+use Rattle.theory.specs.order.PlacingOutcome.{placing-cyclic}
 use Rattle.precedence.proofs.Trying.{kept-at, tried-done, tried-shown}
 use Rattle.precedence.proofs.place.Statement.{statement}
 use Rattle.precedence.proofs.place.Tie as tie

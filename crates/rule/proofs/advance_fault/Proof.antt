@@ -1,8 +1,8 @@
 -- What rules 1 to 4 and the sixth say is said, and else the seventh decides.
 use borrow.Author.Needs.{needs}
 use borrow.Author.Tests.{eqb-true}
-use Rattle.model.specs.AnswerLaws.{first-told}
-use Rattle.model.specs.RefusalLaws.{first-hit, first-pass}
+use Rattle.theory.specs.refusals.RefusalNumbers.{first-told}
+use Rattle.theory.specs.refusals.FirstRefusal.{first-hit, first-pass}
 use Rattle.rule.proofs.Checked.{advance-units, advance-closed}
 use Rattle.rule.proofs.advance_fault.Statement.{statement}
 use Rattle.rule.proofs.advance_fault.Tie as tie

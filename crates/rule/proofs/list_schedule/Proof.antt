@@ -2,8 +2,8 @@
 use mathlib.Core.Path.{sym, _∙_}
 use native.Mathlib.Omega.{arith}
 use borrow.Author.Needs.{needs}
-use Rattle.model.specs.AnswerLaws.{first-told}
-use Rattle.model.specs.RefusalLaws.{closed}
+use Rattle.theory.specs.refusals.RefusalNumbers.{first-told}
+use Rattle.theory.specs.refusals.SoundGraph.{closed}
 use Rattle.rule.proofs.Answering.{told, row-same, list-can, list-even, list-sound, list-room, list-refused, list-cyclic, list-given}
 use Rattle.rule.proofs.list_schedule.Statement.{statement}
 use Rattle.rule.proofs.list_schedule.Tie as tie

@@ -1,7 +1,7 @@
 -- A graph that can be scheduled can be linked and ranked, and the rule is applied to a copy of the starts.
 use lib.ListN.{length}
 use borrow.Author.Needs.{needs}
-use Rattle.model.specs.RefusalLaws.{closed}
+use Rattle.theory.specs.refusals.SoundGraph.{closed}
 use Rattle.links.specs.Walking.{targets}
 use Rattle.rule.proofs.Going.{acyclic}
 use Rattle.rule.proofs.next_starts.Statement.{statement}

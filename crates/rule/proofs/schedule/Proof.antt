@@ -4,7 +4,7 @@ use native.Mathlib.Omega.{arith}
 use lib.ListN.{length}
 use Rattle.model.specs.Limits as limit
 use Rattle.model.specs.Graph.{lent}
-use Rattle.model.specs.RefusalLaws.{closed}
+use Rattle.theory.specs.refusals.SoundGraph.{closed}
 use Rattle.links.specs.Walking.{targets}
 use Rattle.rule.proofs.Going.{Going, acyclic, going-none, going-from, going-within, going-step, going-end}
 use Rattle.rule.proofs.schedule.Statement.{statement}

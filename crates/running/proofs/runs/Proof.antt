@@ -3,7 +3,7 @@ use mathlib.Core.Path.{sym, ap}
 use native.Mathlib.Omega.{arith}
 use borrow.Author.Needs.{needs}
 use Rattle.laws.specs.Count.{bit}
-use Rattle.model.specs.RunLaws.{for-other, for-early, for-over, for-runs}
+use Rattle.theory.specs.unit_use.RunningInNumbers.{for-other, for-early, for-over, for-runs}
 use Rattle.running.proofs.runs.Statement.{statement}
 use Rattle.running.proofs.runs.Tie as tie
 

@@ -5,7 +5,7 @@ use borrow.Author.Needs.{needs}
 use lib.ListN.{length}
 use Rattle.laws.specs.Rows.{at}
 use Rattle.model.specs.Graph.{lent}
-use Rattle.model.specs.RefusalLaws.{closed}
+use Rattle.theory.specs.refusals.SoundGraph.{closed}
 use Rattle.step.proofs.Rooms.{typed-rows}
 use Rattle.step.proofs.Passing.{Passing, passing-none, turn-of, operation-room, kind-room, used-fits, passing-step, passing-end}
 use Rattle.step.proofs.apply.Statement.{statement}

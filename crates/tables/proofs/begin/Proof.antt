@@ -1,6 +1,6 @@
 -- `begin` meets its contract: refusals 1 to 5 of `front`, then 7 of `place`.
 use borrow.Author.Needs.{needs}
-use Rattle.model.specs.RefusalLaws.{closed}
+use Rattle.theory.specs.refusals.SoundGraph.{closed}
 use Rattle.tables.proofs.Beginning.{begun-refused, begun-sound, begun-room, begun-placed}
 use Rattle.tables.proofs.begin.Statement.{statement}
 use Rattle.tables.proofs.begin.Tie as tie

@@ -6,7 +6,7 @@ use lib.ListN.{length}
 use Rattle.laws.specs.Rows.{at}
 use Rattle.model.specs.Limits as limit
 use Rattle.model.specs.Order.{ordered}
-use Rattle.model.specs.RefusalLaws.{closed-turned}
+use Rattle.theory.specs.refusals.SoundGraph.{closed-turned}
 use Rattle.tables.proofs.Reading.{Reading, reading-none, reading-step, reading-end, turned-fits}
 use Rattle.tables.proofs.latest.Statement.{statement}
 use Rattle.tables.proofs.latest.Tie as tie

@@ -1,6 +1,6 @@
 -- `units::bound_fault` meets its contract: one test, of one rule.
 use native.Mathlib.Omega.{arith}
-use Rattle.model.specs.RefusalLaws.{first-says, first-silent, first-end, flat-says, flat-silent}
+use Rattle.theory.specs.refusals.FirstRefusal.{first-says, first-silent, first-end, flat-says, flat-silent}
 use Rattle.units.proofs.bound_fault.Statement.{statement}
 use Rattle.units.proofs.bound_fault.Tie as tie
 

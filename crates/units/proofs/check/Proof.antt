@@ -1,5 +1,5 @@
 -- `units::check` meets its contract: refused, it hands the refusal on; else what no refusal leaves is what `judge` requires.
-use Rattle.model.specs.AnswerLaws.{first-told}
+use Rattle.theory.specs.refusals.RefusalNumbers.{first-told}
 use Rattle.model.specs.Verdicts.{Finds}
 use Rattle.units.proofs.Refused.{check-askable}
 use borrow.Author.Needs.{needs}

@@ -1,6 +1,7 @@
 -- `units::check_fault` meets its contract: the rules are asked in the table's order, and each is asked once those before it say nothing.
-use Rattle.model.specs.AnswerLaws.{first-told}
-use Rattle.model.specs.RefusalLaws.{first-hit, first-pass, closed}
+use Rattle.theory.specs.refusals.RefusalNumbers.{first-told}
+use Rattle.theory.specs.refusals.FirstRefusal.{first-hit, first-pass}
+use Rattle.theory.specs.refusals.SoundGraph.{closed}
 use Rattle.units.proofs.Refused.{check-front, check-hit, check-pass, check-sound}
 use borrow.Author.Needs.{needs}
 use Rattle.units.proofs.check_fault.Statement.{statement}

@@ -1,6 +1,6 @@
 -- `units::judge` meets its contract: the faults are looked for in 01's order, each once there is none of the kinds before it.
 use Rattle.laws.specs.Search.{lowest-or-none}
-use Rattle.model.specs.RefusalLaws.{closed}
+use Rattle.theory.specs.refusals.SoundGraph.{closed}
 use Rattle.units.proofs.Judged.{judged-untimely, judged-broken, judged-overs, timely-tallies}
 use borrow.Author.Needs.{needs}
 use Rattle.units.proofs.judge.Statement.{statement}

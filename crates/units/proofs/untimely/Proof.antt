@@ -4,7 +4,7 @@ use mathlib.Core.List.{List}
 use Rattle.laws.specs.Search.{Passed, passed-none, passed-step, passed-found, passed-end}
 use Rattle.model.specs.Graph.{lent}
 use Rattle.model.specs.Faults as fault
-use Rattle.model.specs.VerdictLaws.{timely-operation}
+use Rattle.theory.specs.unit_use.OneVerdict.{timely-operation}
 use native.Mathlib.Omega.{arith}
 use borrow.Author.Needs.{needs}
 use lib.ListN.{length}

@@ -2,7 +2,7 @@
 use mathlib.Core.Logic.{inl, inr}
 use native.Mathlib.Omega.{arith}
 use borrow.Author.Needs.{needs}
-use Rattle.model.specs.AnswerLaws.{first-told}
+use Rattle.theory.specs.refusals.RefusalNumbers.{first-told}
 use Rattle.rule.proofs.Answering.{unmoved, moves-given, advance-can, advance-even, advance-refused, advance-whole, advance-outside, advance-moves}
 use Rattle.rule.proofs.State.advance.Statement.{statement}
 use Rattle.rule.proofs.State.advance.Tie as tie

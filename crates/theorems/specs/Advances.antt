@@ -1,0 +1,121 @@
+-- From the fresh state as many advances as there are steps give the list schedule, and none of them is refused.
+use mathlib.Core.List.{List, [], _∷_, _++_}
+use Prim.Native.Nat.{ℕ, zero, suc, _+_}
+use lib.ListN.{replicate, length-replicate, getD-replicate, take, length}
+use mathlib.Core.Path.{refl, _≡_, sym, ap, subst, _∙_}
+use mathlib.Core.Logic.{⊎-elim}
+use mathlib.Core.Option.{Option, none}
+use native.Mathlib.Omega.{arith}
+use Rattle.model.specs.Order.{Closed, Cyclic}
+use Rattle.model.specs.Graph.{Graph, order, many}
+use Rattle.model.specs.Rule.{Labels, after, ListStarts, stepped, AllPlaced}
+use Rattle.model.specs.Limits as limit
+use Rattle.model.specs.Refusals.{First, Flat, shape, unitless, cyclic}
+use Rattle.model.specs.Scheduling.{Outside, advanceChecks, StateAfter, AdvanceAnswer}
+use Rattle.theory.specs.order.PlacingOutcome.{placing-exists}
+use Rattle.theory.specs.list.LabelValues.{Ones, labels-placed, ones-closed, labels-one}
+use Rattle.theory.specs.list.Progress.{Doable}
+use Rattle.theory.specs.list.OneListSchedule.{all-placed, stepped-same, stable, after-stable}
+use Rattle.theory.specs.refusals.FirstRefusal.{first-pass, first-silent, first-end, flat-silent}
+use Rattle.theory.specs.refusals.OneRefusal.{first-one}
+use Rattle.theory.specs.refusals.SoundGraph.{closed, sound}
+use Rattle.theory.specs.tables.KeepingStarts.{keeps-acyclic}
+use Rattle.theory.specs.list.OneListAnswer.{advance-ones, all-or-not}
+
+-- the labels of a graph
+pub record LabelRow (g : Graph) : Type 0 where
+  pub row : List ℕ
+  pub are : Labels g row
+
+-- where there is no cycle there are labels
+pub labels-exist : (g : Graph) → Closed (order g) → (Cyclic (order g) → ⊥) → LabelRow g
+labels-exist g c free =
+    let n = many g in
+    let ones : Ones n (replicate n 1) = record { long = length-replicate {A = ℕ} n 1; each = λ i l. getD-replicate n i 1 0 l } in
+    let p = placing-exists (ones-closed g c (replicate n 1) ones) in
+    record { row = p .row; are = labels-placed g c (replicate n 1) ones free (p .row) (p .number) (p .is) }
+
+module _ (g : Graph) (labels units : List ℕ) (can : Doable g units) where
+  -- and these give the list schedule
+  pub list-starts : Labels g labels → ListStarts g units (take (many g) (after g labels units limit.steps))
+  list-starts are = record { labels = labels; are-labels = are; rounds = limit.steps; all = all-placed g labels units can; is = refl }
+
+-- ---- advances from the fresh state
+-- k advances one after another, none refused
+pub data Advances (g : Graph) (units : List ℕ) : ℕ → List ℕ → ℕ → Type 0 where
+  fresh : Advances g units zero (replicate limit.operations 0) 1
+  then : {k : ℕ} {t t′ : List ℕ} {step step′ : ℕ} → Advances g units k t step → AdvanceAnswer g units t step none t′ step′
+      → Advances g units (suc k) t′ step′
+
+-- the starts after k of them, and the step unless all are placed
+pub record Come (g : Graph) (labels units : List ℕ) (k : ℕ) (t : List ℕ) (step : ℕ) : Type 0 where
+  pub starts : t ≡ after g labels units k
+  pub further : (AllPlaced g t → ⊥) → step ≡ k + 1
+
+module _ (g : Graph) (labels units : List ℕ) (are : Labels g labels) where
+  -- one more, from a state that has come so far
+  come-next : (k : ℕ) (t t′ : List ℕ) (step step′ : ℕ) → Come g labels units k t step → StateAfter g units t step none t′ step′
+      → Come g labels units (suc k) t′ step′
+  unfolding StateAfter after
+  come-next k t t′ step step′ come state =
+      ⊎-elim
+      (λ all.
+      let s = state .0 all in
+      let whole = subst (AllPlaced g) (come .starts) all in
+      record {
+        starts = s .starts ∙ come .starts ∙ sym (stable g labels units (after g labels units k) (k + 1) whole);
+        further = λ not. absurd (not (subst (AllPlaced g) (sym (s .starts)) all));
+      })
+      (λ not.
+      let m = state .1 not in
+      let here = come .further not in
+      record {
+        starts = m .starts
+            ∙ stepped-same g (m .labels) labels units (labels-one g (m .labels) labels (m .are-labels) are) t step
+            ∙ ap (λ (row : List ℕ). stepped g labels units row step) (come .starts)
+            ∙ ap (stepped g labels units (after g labels units k)) here;
+        further = λ still. omega (arith, m .further);
+      })
+      (all-or-not g t)
+
+  pub advances-come : {k : ℕ} {t : List ℕ} {step : ℕ} → Advances g units k t step → Come g labels units k t step
+  unfolding after
+  advances-come fresh = record { starts = refl; further = λ not. refl }
+  advances-come (then before one) = come-next _ _ _ _ _ (advances-come before) (one .state)
+
+-- a graph that can be scheduled whole has labels
+pub labelled : (g : Graph) (units : List ℕ) → Doable g units → LabelRow g
+labelled g units can =
+    let c = closed g (can .sound) in
+    labels-exist g c (keeps-acyclic (order g) c (can .row) (can .keeps))
+
+module _ (g : Graph) (units : List ℕ) (can : Doable g units) where
+  -- and give the list schedule's starts
+  pub advances-list : (t : List ℕ) (step : ℕ) → Advances g units limit.steps t step → ListStarts g units (take (many g) t)
+  advances-list t step all =
+      let labels = labelled g units can in
+      subst (λ (row : List ℕ). ListStarts g units (take (many g) row)) (sym (advances-come g (labels .row) units (labels .are) all .starts))
+      (list-starts g (labels .row) units can (labels .are))
+
+  -- at any time before or after, refusal 11 is not given
+  pub never-outside : (k : ℕ) (t : List ℕ) (step : ℕ) → Advances g units k t step → Outside g t step → ⊥
+  never-outside k t step all out =
+      let labels = labelled g units can in
+      let come = advances-come g (labels .row) units (labels .are) all in
+      let not : AllPlaced g t → ⊥ = λ placed. omega (arith, placed .each (out .operation) (out .inside), out .unplaced) in
+      let here = come .further not in
+      ⊎-elim
+      (λ low. omega arith)
+      (λ high.
+      let whole = all-placed g (labels .row) units can in
+      not
+      (subst (AllPlaced g) (sym (come .starts ∙ after-stable g (labels .row) units limit.steps k (omega arith) whole)) whole))
+      (out .out)
+
+  -- nor any other, where the graph passes: no advance from fresh is refused
+  pub never-refused : First ((shape g (length units ≡ g .kinds → ⊥) ++ unitless g units) ++ cyclic (order g)) none → (k : ℕ) (t : List ℕ) (step : ℕ)
+      → Advances g units k t step → (x : Option (ℕ × ℕ)) (t′ : List ℕ) (step′ : ℕ) → AdvanceAnswer g units t step x t′ step′ → x ≡ none
+  never-refused passed k t step all x t′ step′ one =
+      first-one (advanceChecks g units t step) (advance-ones g units t step) x none (one .first)
+      (first-pass ((shape g (length units ≡ g .kinds → ⊥) ++ unitless g units) ++ cyclic (order g)) (Flat 11 (Outside g t step) ∷ []) none passed
+      (first-silent _ _ _ (flat-silent 11 _ (never-outside k t step all)) first-end))

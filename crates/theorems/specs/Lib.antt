@@ -1,0 +1,10 @@
+pub mod CyclesShown
+pub mod TablesExist
+pub mod OneByOne
+pub mod ListSchedule
+pub mod Advances
+pub mod PeakUse
+pub mod Checker
+pub mod AllListed
+pub mod ListerAnswers
+pub mod Views

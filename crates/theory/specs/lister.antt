@@ -1,0 +1,3 @@
+pub mod OneLeast
+pub mod OneListerAnswer
+pub mod Windows

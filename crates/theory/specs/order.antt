@@ -1,0 +1,4 @@
+pub mod Decided
+pub mod KeptOperations
+pub mod PlacingOutcome
+pub mod PlacingSteps

@@ -1,0 +1,4 @@
+pub mod KeepingStarts
+pub mod LatestTurned
+pub mod OneTable
+pub mod OneTableAnswer

@@ -1,0 +1,3 @@
+pub mod OneVerdict
+pub mod RunningAndPeak
+pub mod RunningInNumbers
