@@ -5,20 +5,20 @@ use mathlib.Core.List.{List}
 use Prim.Native.Nat.{ℕ, _-_, _≤_, _<_}
 use native.Mathlib.Omega.{arith}
 use lib.ListN.{length, take}
-use Rattle.laws.specs.Cases.{lt-or-le}
-use Rattle.laws.specs.Rows.{take-at, take-long, over-is}
-use Rattle.laws.specs.Lowest.{Lowest}
+use Rattle.maths.specs.Cases.{lt-or-le}
+use Rattle.maths.specs.Rows.{take-at, take-long, over-is}
+use Rattle.maths.specs.Lowest.{Lowest}
 use Rattle.model.specs.Order.{Order, size, edgeCount, Closed, Cyclic, Kept}
 use Rattle.theory.specs.order.KeptOperations.{kept-inside, cyclic-kept}
 use Rattle.theory.specs.cycle.OneTrail.{trail-few}
 use Rattle.theory.specs.cycle.LowestPredecessors.{Backed, backed-end, Leads}
-use Rattle.theory.specs.cycle.WalkUntilMetAgain.{Stays, leads-stays, Rounds, trail-made}
-use Rattle.theory.specs.cycle.WritingTheCycle.{Least, Wrote, shown-made}
+use Rattle.theory.specs.cycle.WalkUntilMetAgain.{NeverLeaves, leads-stays, MetAgain, trail-made}
+use Rattle.theory.specs.cycle.WritingTheCycle.{LeastNumber, Wrote, shown-made}
 use Rattle.cycle.specs.Show.{KeptAt, Shows}
-use Rattle.cycle.specs.Parts.{Blank, Ends, FirstBlank, Trailed}
+use Rattle.cycle.specs.Parts.{Blank, EndsInside, FirstBlank, Trailed}
 
 -- a closed order's edges end below the limit
-pub ends : {o : Order} → Closed o → Ends (o .from) (o .to)
+pub ends : {o : Order} → Closed o → EndsInside (o .from) (o .to)
 ends closed = record {
   even = closed .even;
   source-in = λ e l. omega (arith, closed .source-in e l, closed .few);
@@ -46,11 +46,11 @@ module _ {o : Order} {starts back : List ℕ} {first : ℕ} (closed : Closed o) 
       }
 
   -- from a kept operation the row leads to kept ones alone
-  pub stays : Stays back first
+  pub stays : NeverLeaves back first
   stays = leads-stays leads start closed
 
   -- along this row what is met until one comes again is the trail
-  pub trailed : {met : List ℕ} {count twice : ℕ} → Rounds back first met count twice → Trailed o met count twice
+  pub trailed : {met : List ℕ} {count twice : ℕ} → MetAgain back first met count twice → Trailed o met count twice
   trailed {met} {count} rounds =
       let trail = trail-made leads start rounds in
       record {
@@ -62,7 +62,7 @@ module _ {o : Order} {starts back : List ℕ} {first : ℕ} (closed : Closed o) 
 
 -- what is written in front of the row is the cycle shown
 pub shows : {o : Order} {met : List ℕ} {count twice lowest : ℕ} {before after : List ℕ} → Closed o → Trailed o met count twice → size o ≤ length before
-    → Least met twice count lowest → Wrote met twice count lowest before after (count - twice) → Shows o before after (count - twice)
+    → LeastNumber met twice count lowest → Wrote met twice count lowest before after (count - twice) → Shows o before after (count - twice)
 shows {o} {met} {count} {twice} {lowest} {before} {after} closed t wide least wrote =
     let cycle : List ℕ = take (count - twice) after in
     let long : length cycle ≡ count - twice = take-long (count - twice) after (omega (arith, t .few, wrote .long)) in

@@ -1,3 +1,3 @@
 pub mod Show
 pub mod Parts
-pub mod One
+pub mod OneAnswer

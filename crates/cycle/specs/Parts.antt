@@ -3,7 +3,7 @@ use mathlib.Core.Path.{_≡_}
 use mathlib.Core.List.{List}
 use Prim.Native.Nat.{ℕ, _+_, _≤_, _<_}
 use lib.ListN.{length, take}
-use Rattle.laws.specs.Rows.{at}
+use Rattle.maths.specs.Rows.{at}
 use Rattle.model.specs.Limits as limit
 use Rattle.model.specs.Order.{Order, size}
 use Rattle.model.specs.Cycle.{Trail}
@@ -13,7 +13,7 @@ abbrev pub Blank : List ℕ → ℕ → Type 0
 Blank row i = at row i ≡ 0
 
 -- each edge has two ends, below the limit
-pub record Ends (from to : List ℕ) : Type 0 where
+pub record EndsInside (from to : List ℕ) : Type 0 where
   pub even : length to ≡ length from
   pub source-in : (e : ℕ) → e < length from → at from e < limit.operations
   pub target-in : (e : ℕ) → e < length from → at to e < limit.operations
@@ -37,7 +37,7 @@ pub record Span (twice count : ℕ) : Type 0 where
   pub few : count ≤ limit.operations
 
 -- `lowest` is such a place, and the steps are at most a whole round
-pub record Round (twice count lowest steps : ℕ) : Type 0 where
+pub record PartOfRound (twice count lowest steps : ℕ) : Type 0 where
   pub late : twice ≤ lowest
   pub inside : lowest < count
   pub few : count ≤ limit.operations

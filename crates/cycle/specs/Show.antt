@@ -3,7 +3,7 @@ use mathlib.Core.Path.{_≡_}
 use mathlib.Core.List.{List}
 use Prim.Native.Nat.{ℕ, _<_}
 use lib.ListN.{length}
-use Rattle.laws.specs.Rows.{at, over}
+use Rattle.maths.specs.Rows.{at, over}
 use Rattle.model.specs.Order.{Order, size, Kept}
 use Rattle.model.specs.Cycle.{Shown}
 

@@ -6,11 +6,11 @@ ghost use lib.ListN.{length};
 ghost use Rattle.model.specs.Limits as limit;
 ghost use Rattle.model.specs.Order.{ordered, Closed, Cyclic};
 ghost use Rattle.theory.specs.cycle.LowestPredecessors.{Lower, Backed};
-ghost use Rattle.theory.specs.cycle.WalkUntilMetAgain.{Stays, Rounds};
+ghost use Rattle.theory.specs.cycle.WalkUntilMetAgain.{NeverLeaves, MetAgain};
 ghost use Rattle.theory.specs.cycle.TurnedRound.{Turned};
-ghost use Rattle.theory.specs.cycle.WritingTheCycle.{Lesser, Least, Wrote};
+ghost use Rattle.theory.specs.cycle.WritingTheCycle.{Lesser, LeastNumber, Wrote};
 ghost use Rattle.cycle.specs.Show.{KeptAt, Shows};
-ghost use Rattle.cycle.specs.Parts.{Blank, Ends, FirstBlank, Trailed, Span, Round};
+ghost use Rattle.cycle.specs.Parts.{Blank, EndsInside, FirstBlank, Trailed, Span, PartOfRound};
 
 // The lower of two numbers, where the new one counts only if its start is 0.
 fn lower(start: u16, new: u16, old: u16) -> u16
@@ -24,7 +24,7 @@ fn lower(start: u16, new: u16, old: u16) -> u16
 
 // For each operation the lowest with start 0 that has an edge to it, and the limit where there is none.
 fn backs(from: &[u16], to: &[u16], starts: &[u16; OPERATIONS]) -> [u16; OPERATIONS]
-    requires { ⌜ Ends (now from) (now to) ⌝ }
+    requires { ⌜ EndsInside (now from) (now to) ⌝ }
     ensures { λ r. ⌜ Backed (now (from .entry)) (now (to .entry)) (Blank (now (starts .entry))) r (length (now (from .entry))) ⌝ }
 {
     let mut back = [OPERATIONS as u16; OPERATIONS];
@@ -62,8 +62,8 @@ struct Walked {
 
 // From the first along the row until one comes that was met before. It ends, since each turn takes one more place.
 fn walk(back: &[u16; OPERATIONS], first: usize) -> Walked
-    requires { ⌜ Stays (now back) first ⌝ }
-    ensures { λ r. ⌜ Rounds (now (back .entry)) first (r .met) (r .count) (r .twice) ⌝ }
+    requires { ⌜ NeverLeaves (now back) first ⌝ }
+    ensures { λ r. ⌜ MetAgain (now (back .entry)) first (r .met) (r .count) (r .twice) ⌝ }
 {
     let mut met = [0u16; OPERATIONS];
     let mut places = [0u16; OPERATIONS];
@@ -101,7 +101,7 @@ fn lesser(met: &[u16; OPERATIONS], old: usize, new: usize) -> usize
 // The place of the lowest number that was met at `twice` or later.
 fn lowest(met: &[u16; OPERATIONS], twice: usize, count: usize) -> usize
     requires { ⌜ Span twice count ⌝ }
-    ensures { λ r. ⌜ Least (now (met .entry)) twice count r ⌝ }
+    ensures { λ r. ⌜ LeastNumber (now (met .entry)) twice count r ⌝ }
 {
     let mut best = twice;
     let mut k = twice + 1;
@@ -114,7 +114,7 @@ fn lowest(met: &[u16; OPERATIONS], twice: usize, count: usize) -> usize
 
 // The place so many steps on from the lowest number's: after the last place comes `twice`.
 fn place(twice: usize, count: usize, lowest: usize, steps: usize) -> usize
-    requires { ⌜ Round twice count lowest steps ⌝ }
+    requires { ⌜ PartOfRound twice count lowest steps ⌝ }
     ensures { λ r. ⌜ Turned twice count lowest steps r ⌝ }
 {
     let straight = lowest + steps;
@@ -127,7 +127,7 @@ fn place(twice: usize, count: usize, lowest: usize, steps: usize) -> usize
 
 // Writes the cycle from its lowest number on, in edge direction, which is against the way that was gone.
 fn write(met: &[u16; OPERATIONS], twice: usize, count: usize, lowest: usize, out: &mut [u16])
-    requires { ⌜ Least (now met) twice count lowest ⌝ }
+    requires { ⌜ LeastNumber (now met) twice count lowest ⌝ }
     requires { ⌜ (count ≤ limit.operations) × (count - twice ≤ length (now out)) ⌝ }
     ensures { λ r. ⌜ Wrote (now (met .entry)) twice count lowest (now (out .entry)) (now (out .exit)) (count - twice) ⌝ }
 {

@@ -1,5 +1,5 @@
 mod Room
 mod Later
-mod Back
+mod WalkingBack
 mod Sweep
 mod Rounds

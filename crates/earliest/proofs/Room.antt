@@ -2,8 +2,8 @@
 use mathlib.Core.List.{List}
 use Prim.Native.Nat.{ℕ, _+_, _*_, _≤_}
 use native.Mathlib.Omega.{arith}
-use Rattle.laws.specs.Rows.{at}
-use Rattle.laws.specs.Count.{marks-le}
+use Rattle.maths.specs.Rows.{at}
+use Rattle.maths.specs.Count.{marks-le}
 use Rattle.model.specs.Limits as limit
 use Rattle.model.specs.Order.{Order, size, Closed}
 use Rattle.theory.specs.order.PlacingSteps.{Part}

@@ -4,24 +4,24 @@ use mathlib.Core.List.{List}
 use Prim.Native.Nat.{ℕ, _+_, _≤_}
 use native.Mathlib.Omega.{arith}
 use lib.ListN.{replicate, length-replicate}
-use Rattle.laws.specs.Rows.{blank}
-use Rattle.laws.specs.Count.{marks, marks-le, marks-lt, marks-none}
+use Rattle.maths.specs.Rows.{blank}
+use Rattle.maths.specs.Count.{marks, marks-le, marks-lt, marks-none}
 use Rattle.model.specs.Limits as limit
 use Rattle.model.specs.Order.{Order, size, Closed}
 use Rattle.model.specs.Placing.{Placing}
 use Rattle.theory.specs.order.PlacingSteps.{part-none, part-whole}
-use Rattle.links.specs.Linking.{Linked}
+use Rattle.edge_links.specs.Linking.{Linked}
 use Rattle.earliest.specs.Round.{Known, Round}
 use Rattle.earliest.proofs.Sweep.{known-more}
 
 -- the loop of `earliest`, before a round: what is placed is counted
-pub record Rounds (o : Order) (s links : List ℕ) (total : ℕ) : Type 0 where
+pub record RoundsSoFar (o : Order) (s links : List ℕ) (total : ℕ) : Type 0 where
   pub known : Known o s links
   pub counts : total ≡ marks s (size o)
 
 module _ {o : Order} {links : List ℕ} where
   -- nothing is placed yet
-  pub rounds-none : Closed o → Linked (o .to) links → Rounds o (replicate limit.operations 0) links 0
+  pub rounds-none : Closed o → Linked (o .to) links → RoundsSoFar o (replicate limit.operations 0) links 0
   rounds-none c linked = record {
     known = record {
       closed = c;
@@ -31,9 +31,9 @@ module _ {o : Order} {links : List ℕ} where
     counts = sym (marks-none (replicate limit.operations 0) (size o) (λ i l. blank limit.operations i));
   }
 
-  module _ {s₀ s : List ℕ} {total r : ℕ} (h : Rounds o s₀ links total) (k : Round o s₀ s r) where
+  module _ {s₀ s : List ℕ} {total r : ℕ} (h : RoundsSoFar o s₀ links total) (k : Round o s₀ s r) where
     -- a round adds what it placed
-    pub rounds-step : Rounds o s links (total + r)
+    pub rounds-step : RoundsSoFar o s links (total + r)
     rounds-step = record { known = known-more (h .known) (k .part); counts = omega (arith, h .counts, k .counts) }
 
     -- no more are placed than there are

@@ -6,12 +6,12 @@ use Prim.Native.Nat.{ℕ, _+_, _≤_, _<_}
 use native.Mathlib.Omega.{arith}
 use borrow.Author.Count.{below-more}
 use lib.ListN.{set}
-use Rattle.laws.specs.Rows.{at}
-use Rattle.laws.specs.Count.{marks, marks-le}
+use Rattle.maths.specs.Rows.{at}
+use Rattle.maths.specs.Count.{marks, marks-le}
 use Rattle.model.specs.Order.{Order, size, Closed}
 use Rattle.model.specs.Placing.{StartsAt, Waits}
 use Rattle.theory.specs.order.PlacingSteps.{Part, part-more, more-set}
-use Rattle.earliest.specs.Round.{Known, Visit, Round, turn}
+use Rattle.earliest.specs.Round.{Known, Visit, Round, kthOf}
 
 -- the links stay when more is placed
 pub known-more : {o : Order} {s₀ s links : List ℕ} → Known o s₀ links → Part o s → Known o s links
@@ -29,21 +29,21 @@ module _ {o : Order} {s : List ℕ} {i : ℕ} where
       record { part = part-more c h m; counts = m .counts; same = λ y. absurd (omega arith); stuck = λ y. absurd (omega arith) }
 
 -- counted from either end, the operation that comes k-th has k for its own turn
-turn-back : (up : Bool) (n k : ℕ) → k < n → turn up n (turn up n k) ≡ k
-turn-back true n k l = refl
-turn-back false n k l = omega arith
+kth-back : (up : Bool) (n k : ℕ) → k < n → kthOf up n (kthOf up n k) ≡ k
+kth-back true n k l = refl
+kth-back false n k l = omega arith
 
 -- and it is one of the n
-pub turn-inside : (up : Bool) (n k : ℕ) → k < n → turn up n k < n
-turn-inside true n k l = l
-turn-inside false n k l = omega arith
+pub kth-inside : (up : Bool) (n k : ℕ) → k < n → kthOf up n k < n
+kth-inside true n k l = l
+kth-inside false n k l = omega arith
 
 -- the loop of `round`, before the k-th visit: where none is placed, each that was visited and is left waits
 pub record Sweep (o : Order) (up : Bool) (s₀ s : List ℕ) (r k : ℕ) : Type 0 where
   pub within : k ≤ size o
   pub part : Part o s
   pub counts : marks s (size o) ≡ marks s₀ (size o) + r
-  pub stuck : r ≡ 0 → (j : ℕ) → j < k → at s (turn up (size o) j) ≡ 0 → Waits o s (turn up (size o) j)
+  pub stuck : r ≡ 0 → (j : ℕ) → j < k → at s (kthOf up (size o) j) ≡ 0 → Waits o s (kthOf up (size o) j)
 
 module _ {o : Order} {up : Bool} {s₀ : List ℕ} where
   -- none is visited
@@ -51,7 +51,7 @@ module _ {o : Order} {up : Bool} {s₀ : List ℕ} where
   sweep-none h = record { within = omega arith; part = h; counts = omega arith; stuck = λ z j l. absurd (omega arith) }
 
   -- one more is visited
-  pub sweep-step : {s s′ : List ℕ} {r q k : ℕ} → Sweep o up s₀ s r k → k < size o → Visit o (turn up (size o) k) s s′ q
+  pub sweep-step : {s s′ : List ℕ} {r q k : ℕ} → Sweep o up s₀ s r k → k < size o → Visit o (kthOf up (size o) k) s s′ q
       → Sweep o up s₀ s′ (r + q) (k + 1)
   sweep-step {s} {s′} {r} {q} {k} h l v = record {
     within = omega arith;
@@ -59,8 +59,8 @@ module _ {o : Order} {up : Bool} {s₀ : List ℕ} where
     counts = omega (arith, h .counts, v .counts);
     stuck = λ z.
         let none : q ≡ 0 = omega arith in
-        below-more (λ j. at s′ (turn up (size o) j) ≡ 0 → Waits o s′ (turn up (size o) j)) k
-        (subst (λ (x : List ℕ). (j : ℕ) → j < k → at x (turn up (size o) j) ≡ 0 → Waits o x (turn up (size o) j)) (sym (v .same none))
+        below-more (λ j. at s′ (kthOf up (size o) j) ≡ 0 → Waits o s′ (kthOf up (size o) j)) k
+        (subst (λ (x : List ℕ). (j : ℕ) → j < k → at x (kthOf up (size o) j) ≡ 0 → Waits o x (kthOf up (size o) j)) (sym (v .same none))
         (h .stuck (omega arith)))
         (v .stuck none);
   }
@@ -71,8 +71,8 @@ module _ {o : Order} {up : Bool} {s₀ : List ℕ} where
     part = h .part;
     counts = h .counts;
     stuck = λ z i m.
-        subst (λ (x : ℕ). at s x ≡ 0 → Waits o s x) (turn-back up (size o) i m)
-        (h .stuck z (turn up (size o) i) (omega (arith, turn-inside up (size o) i m)));
+        subst (λ (x : ℕ). at s x ≡ 0 → Waits o s x) (kth-back up (size o) i m)
+        (h .stuck z (kthOf up (size o) i) (omega (arith, kth-inside up (size o) i m)));
   }
 
   -- no more are placed than there are

@@ -3,12 +3,12 @@ use mathlib.Core.Path.{_≡_}
 use mathlib.Core.Bool.{Bool, true, false}
 use mathlib.Core.List.{List}
 use Prim.Native.Nat.{ℕ, _+_, _-_, _<_}
-use Rattle.laws.specs.Rows.{at}
-use Rattle.laws.specs.Count.{marks}
+use Rattle.maths.specs.Rows.{at}
+use Rattle.maths.specs.Count.{marks}
 use Rattle.model.specs.Order.{Order, size, Closed}
 use Rattle.model.specs.Placing.{Waits}
 use Rattle.theory.specs.order.PlacingSteps.{Part}
-use Rattle.links.specs.Linking.{Linked}
+use Rattle.edge_links.specs.Linking.{Linked}
 
 -- what a visit starts from: part of the order is placed, and its edges are linked by their targets
 pub record Known (o : Order) (s : List ℕ) (links : List ℕ) : Type 0 where
@@ -30,6 +30,6 @@ pub record Round (o : Order) (s₀ s : List ℕ) (r : ℕ) : Type 0 where
   pub stuck : r ≡ 0 → (i : ℕ) → i < size o → at s i ≡ 0 → Waits o s i
 
 -- which of n comes k-th: counted from the first one up, or from the last one down
-abbrev pub turn : Bool → ℕ → ℕ → ℕ
-turn true n k = k
-turn false n k = n - 1 - k
+abbrev pub kthOf : Bool → ℕ → ℕ → ℕ
+kthOf true n k = k
+kthOf false n k = n - 1 - k

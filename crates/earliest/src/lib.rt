@@ -6,8 +6,8 @@ ghost use Rattle.model.specs.Limits as limit;
 ghost use Rattle.model.specs.Order.{Closed, ordered};
 ghost use Rattle.model.specs.Placing.{Placing};
 ghost use Rattle.theory.specs.order.PlacingSteps.{later, FirstStep};
-ghost use Rattle.earliest.specs.Round.{Known, Visit, Round, turn};
-use links::LINKS;
+ghost use Rattle.earliest.specs.Round.{Known, Visit, Round, kthOf};
+use edge_links::LINKS;
 use model::limits::OPERATIONS;
 
 // The first step that is left after one edge more, whose source has this start and weight: 0 once an operation waits.
@@ -79,7 +79,7 @@ fn visit(
 // The operation that comes k-th of n: counted from the first one up, or from the last one down.
 fn kth(k: usize, n: usize, up: bool) -> usize
     requires { ⌜ k < n ⌝ }
-    ensures { λ r. ⌜ r ≡ turn up n k ⌝ }
+    ensures { λ r. ⌜ r ≡ kthOf up n k ⌝ }
 {
     if up { k } else { n - 1 - k }
 }
@@ -122,7 +122,7 @@ pub fn earliest(weights: &[u8], from: &[u16], to: &[u16], starts: &mut [u16; OPE
     ensures { λ r. ⌜ Placing (ordered (now (weights .entry)) (now (from .entry)) (now (to .entry))) (now (starts .exit)) r ⌝ }
 {
     *starts = [0u16; OPERATIONS];
-    let links = links::link(to);
+    let links = edge_links::link(to);
     let mut up = rises(from, to);
     let mut total = 0;
     loop {

@@ -7,13 +7,13 @@ use mathlib.Core.List.{List, [], _∷_, _++_}
 use Prim.Native.Nat.{ℕ, _≤_, _<_}
 use native.Mathlib.Omega.{arith}
 use lib.ListN.{length}
-use Rattle.laws.specs.Cases.{Tells, same-or-not}
-use Rattle.laws.specs.Tests.{off}
-use Rattle.laws.specs.TellLaws.{on}
-use Rattle.laws.specs.Rows.{at}
+use Rattle.maths.specs.Cases.{Tells, same-or-not}
+use Rattle.maths.specs.Tests.{off}
+use Rattle.maths.specs.TellLaws.{on}
+use Rattle.maths.specs.Rows.{at}
 use Rattle.model.specs.Limits as limit
 use Rattle.model.specs.Graph.{Graph, order, many, lent, Sound}
-use Rattle.model.specs.Refusals.{Rule, First, Flat, output, unitless, cyclic, large-bound, late-bound}
+use Rattle.model.specs.Refusals.{Check, First, Flat, output, unitless, cyclic, large-bound, late-bound}
 use Rattle.theory.specs.refusals.FirstRefusal.{first-pass, Never, never-append}
 use Rattle.theory.specs.refusals.SoundGraph.{shape-own-then}
 use Rattle.model.specs.Answers.{refusalOf, numbered, Answered}
@@ -26,7 +26,7 @@ use Rattle.model.specs.declared.Refusal.{Refusal}
 use Rattle.model.specs.declared.Listed.{Listed}
 use Rattle.model.specs.declared.Listed.the-variants as answers
 use Rattle.lister.specs.Search.{job, Sized}
-use Rattle.lister.specs.Asking.{askedOf, Matched, frontChecks, backChecks, Begun, Bounded, Sought}
+use Rattle.lister.specs.Asking.{askedOf, Matched, frontChecks, backChecks, FrontAdmitted, BackAdmitted, Sought}
 
 -- ---- the rows that only the lister takes
 module _ (g : Graph) (units : List ℕ) {matched : Bool} where
@@ -59,17 +59,17 @@ back-never g bound =
     (never-append 7 (large-bound bound) (late-bound (order g) bound) (large-bound-never bound 7 (omega arith)) (late-bound-never (order g) bound 7 (omega arith)))
     (λ p h. omega (arith, h .is), tt)
 
-module _ (d t : List ℕ) (kinds : ℕ) (f o units : List ℕ) (bound : ℕ) {tight matched : Bool} {row : List ℕ} (m : Matched (lent d t kinds f o) units tight row matched) {before s out : List ℕ} {a : Answer} (b : Begun (lent d t kinds f o) units (matched ≡ false) before a s out) where
+module _ (d t : List ℕ) (kinds : ℕ) (f o units : List ℕ) (bound : ℕ) {equal matched : Bool} {row : List ℕ} (m : Matched (lent d t kinds f o) units equal row matched) {before s out : List ℕ} {a : Answer} (b : FrontAdmitted (lent d t kinds f o) units (matched ≡ false) before a s out) where
   -- the graph that is lent
   abbrev g : Graph
   g = lent d t kinds f o
 
   -- the row asked after, if one is
   abbrev asked : Option (List ℕ)
-  asked = askedOf tight row
+  asked = askedOf equal row
 
   -- refusals 1 to 7, in 01's words
-  abbrev front : List Rule
+  abbrev front : List Check
   front = frontChecks g units (ListerUneven g units asked) (length before)
 
   -- the output row is as it was
@@ -99,7 +99,7 @@ module _ (d t : List ℕ) (kinds : ℕ) (f o units : List ℕ) (bound : ℕ) {ti
     kept : out ≡ before
     kept = row-is (order g) before stays out (begun-as e .row)
 
-    module _ {w : Answer} {late : List ℕ} (c : Bounded g bound w late) where
+    module _ {w : Answer} {late : List ℕ} (c : BackAdmitted g bound w late) where
       -- refused by one of the last three
       pub ask-bounded : {why : Refusal} → w ≡ Refused why → ListerAnswer g units bound asked before (answers.Refused why) out
       ask-bounded {why} e′ =
@@ -128,7 +128,7 @@ module _ (d t : List ℕ) (kinds : ℕ) (f o units : List ℕ) (bound : ℕ) {ti
         }
 
         -- and its answer is the question's
-        pub ask-sought : {r : Listed} {after : List ℕ} → Sought (job d t f o units s late row) tight out r after
+        pub ask-sought : {r : Listed} {after : List ℕ} → Sought (job d t f o units s late row) equal out r after
             → ListerAnswer g units bound asked before r after
         ask-sought {r} {after} h =
             subst (λ (x : Option (ℕ × ℕ)). Answered (order g) (front ++ backChecks g bound) before (Gives g units bound asked before r) x after) (sym (h .passes))

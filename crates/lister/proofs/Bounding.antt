@@ -4,7 +4,7 @@ use mathlib.Core.Option.{none}
 use mathlib.Core.List.{List, _++_}
 use Prim.Native.Nat.{ℕ, _-_, _≤_, _<_}
 use native.Mathlib.Omega.{arith}
-use Rattle.laws.specs.Rows.{at, tabulate, tabulate-long, tabulate-at}
+use Rattle.maths.specs.Rows.{at, tabulate, tabulate-long, tabulate-at}
 use Rattle.model.specs.Limits as limit
 use Rattle.model.specs.Order.{Closed}
 use Rattle.model.specs.Graph.{Graph, order, many}
@@ -18,14 +18,14 @@ use Rattle.theory.specs.refusals.RefusalNumbers.{refused-passes}
 use Rattle.model.specs.Listing.{product, ManyWindows}
 use Rattle.model.specs.declared.Answer.the-variants.{Done, Refused}
 use Rattle.model.specs.declared.Refusal.the-variants.{BoundTooLarge, BoundTooSmall, TooManyWindows}
-use Rattle.tables.specs.Begun.{Room, LatestRow}
+use Rattle.tables.specs.Admitted.{RoomWithin, LatestRow}
 use Rattle.lister.specs.Search.{spans, Windows}
-use Rattle.lister.specs.Asking.{Bounded}
+use Rattle.lister.specs.Asking.{BackAdmitted}
 
 module _ (g : Graph) (closed : Closed (order g)) (bound : ℕ) (early : List ℕ) (is-early : Earliest (order g) early) where
   -- above the last step: refusal 8
-  pub bounded-large : (late : List ℕ) → limit.steps < bound → Bounded g bound (Refused BoundTooLarge) late
-  bounded-large late l = record {
+  pub back-admitted-large : (late : List ℕ) → limit.steps < bound → BackAdmitted g bound (Refused BoundTooLarge) late
+  back-admitted-large late l = record {
     first = first-hit (large-bound bound ++ late-bound (order g) bound) _ _
         (first-hit (large-bound bound) _ _ (first-says _ _ 8 0 (flat-says 8 _ l)));
     latest = refused-passes BoundTooLarge;
@@ -38,8 +38,8 @@ module _ (g : Graph) (closed : Closed (order g)) (bound : ℕ) (early : List ℕ
     not-large = first-silent _ _ none (flat-silent 8 _ (λ b. absurd (omega arith))) first-end
 
     -- below the latency: refusal 9
-    pub bounded-late : (late : List ℕ) → bound < l → Bounded g bound (Refused BoundTooSmall) late
-    bounded-late late b = record {
+    pub back-admitted-late : (late : List ℕ) → bound < l → BackAdmitted g bound (Refused BoundTooSmall) late
+    back-admitted-late late b = record {
       first = first-hit (large-bound bound ++ late-bound (order g) bound) _ _
           (first-pass (large-bound bound) _ _ not-large
           (first-says _ _ 9 0
@@ -51,7 +51,7 @@ module _ (g : Graph) (closed : Closed (order g)) (bound : ℕ) (early : List ℕ
 
     module _ (up : l ≤ bound) where
       -- the earliest starts are within the bound, so there are latest ones
-      pub bound-room : Room (order g) bound
+      pub bound-room : RoomWithin (order g) bound
       bound-room = record { row = early; keeps = is-early .keeps; within = latency-within (order g) early l bound ends up }
 
       bound-passes : First (large-bound bound ++ late-bound (order g) bound) none
@@ -93,7 +93,7 @@ module _ (g : Graph) (closed : Closed (order g)) (bound : ℕ) (early : List ℕ
         }
 
         -- more windows than the limit: refusal 10
-        pub bounded-many : limit.windows < product (spans early late (many g)) (many g) → Bounded g bound (Refused TooManyWindows) late
+        pub bounded-many : limit.windows < product (spans early late (many g)) (many g) → BackAdmitted g bound (Refused TooManyWindows) late
         bounded-many above = record {
           first = first-pass (large-bound bound ++ late-bound (order g) bound) _ _ bound-passes
               (first-says _ _ 10 0 (flat-says 10 _ (record { mobility = spans early late (many g); is = mobility; above = above })));
@@ -110,8 +110,8 @@ module _ (g : Graph) (closed : Closed (order g)) (bound : ℕ) (early : List ℕ
             (h .above))
 
         -- none applies
-        pub bounded-done : (limit.windows < product (spans early late (many g)) (many g) → ⊥) → Bounded g bound Done late
-        bounded-done few = record {
+        pub back-admitted-done : (limit.windows < product (spans early late (many g)) (many g) → ⊥) → BackAdmitted g bound Done late
+        back-admitted-done few = record {
           first = first-pass (large-bound bound ++ late-bound (order g) bound) _ _ bound-passes
               (first-silent _ _ none (flat-silent 10 _ (few-windows few)) first-end);
           latest = λ p. row .is;

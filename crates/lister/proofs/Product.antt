@@ -6,7 +6,7 @@ use Prim.Native.Nat.{ℕ, zero, suc, _+_, _-_, _*_, _<_, _≤_}
 use native.Mathlib.Nat.{eq-or-lt-of-le, le-of-suc-le-suc, mul-le-mul, mul-le-mul-left}
 use native.Mathlib.Numerals.{add-one}
 use native.Mathlib.Omega.{arith}
-use Rattle.laws.specs.Rows.{at, tabulate-at}
+use Rattle.maths.specs.Rows.{at, tabulate-at}
 use Rattle.model.specs.Limits as limit
 use Rattle.model.specs.Listing.{product}
 use Rattle.lister.specs.Search.{spans}

@@ -9,22 +9,22 @@ use native.Mathlib.Omega.{arith}
 use borrow.Author.Count.{below-more}
 use lib.ListN.{length, set, length-set}
 use lib.Seq.{getD-set-same}
-use Rattle.laws.specs.Cases.{lt-or-le}
-use Rattle.laws.specs.Tests.{clash}
-use Rattle.laws.specs.Rows.{at}
-use Rattle.laws.specs.Counting.{count-same}
-use Rattle.laws.specs.Words.{Same, Before}
-use Rattle.laws.specs.WordLaws.{same-none, same-refl, same-sym, same-trans, same-down, same-more, same-set, before-here, same-not-before, before-at}
+use Rattle.maths.specs.Cases.{lt-or-le}
+use Rattle.maths.specs.Tests.{clash}
+use Rattle.maths.specs.Rows.{at}
+use Rattle.maths.specs.Counting.{count-same}
+use Rattle.maths.specs.Words.{Same, Before}
+use Rattle.maths.specs.WordLaws.{same-none, same-refl, same-sym, same-trans, same-down, same-more, same-set, before-here, same-not-before, before-at}
 use Rattle.model.specs.Limits as limit
 use Rattle.model.specs.Graph.{Graph, many, Sound}
 use Rattle.model.specs.Use.{runs}
-use Rattle.links.specs.Linking.{Ends}
-use Rattle.running.specs.InUse.{users, inUse}
-use Rattle.fit.specs.Fit.{EdgeKept, Room, Fits}
-use Rattle.lister.specs.Search.{Job, Sized, Placed, Ready, Completes, Searched, Begins, Stays, Tried}
+use Rattle.edge_links.specs.Linking.{LinkableEnds}
+use Rattle.unit_use.specs.FirstInUse.{users, firstInUse}
+use Rattle.placement.specs.Fit.{EdgeKept, UnitsEnough, Fits}
+use Rattle.lister.specs.Search.{Job, Sized, Placed, Ready, Completes, Searched, Begins, StaysEqual, FirstFit}
 
 -- ---- what stands up to i decides whether i fits
-in-use-local : (busy types : List ℕ) (k l m : ℕ) {a b : List ℕ} → Same m a b → inUse busy types a k l m ≡ inUse busy types b k l m
+in-use-local : (busy types : List ℕ) (k l m : ℕ) {a b : List ℕ} → Same m a b → firstInUse busy types a k l m ≡ firstInUse busy types b k l m
 unfolding runs
 in-use-local busy types k l m {a} {b} s =
     count-same (runs (users busy types) a k l) (runs (users busy types) b k l) m (λ j h. rw (s .upto j h))
@@ -34,7 +34,7 @@ edge-local {from = from} {to = to} {e = e} s k = record {
   kept = λ x. omega (arith, k .kept x, s .upto (at from e) (omega arith), s .upto (at to e) (omega arith));
 }
 
-room-local : {busy types units : List ℕ} {i : ℕ} {a b : List ℕ} → Same (i + 1) a b → Room busy types units a i → Room busy types units b i
+room-local : {busy types units : List ℕ} {i : ℕ} {a b : List ℕ} → Same (i + 1) a b → UnitsEnough busy types units a i → UnitsEnough busy types units b i
 room-local {busy} {types} {i = i} s r = record {
   enough = λ l x y.
       let e = s .upto i (omega arith) in
@@ -102,12 +102,12 @@ module _ {g : Graph} {units s₀ : List ℕ} {i t₀ : ℕ} where
       }
 
       -- i fits at t
-      pub trying-found : (last : ℕ) → Fits g units (set s i t) i → Tried g units s₀ i t₀ last (set s i t) t
+      pub trying-found : (last : ℕ) → Fits g units (set s i t) i → FirstFit g units s₀ i t₀ last (set s i t) t
       trying-found last f =
           record { kept = put-kept; from = w .from; skipped = w .skipped; here = λ h. put-at; fits = λ h. f }
 
     -- no start is left
-    pub trying-out : (last : ℕ) → last < t → Tried g units s₀ i t₀ last s t
+    pub trying-out : (last : ℕ) → last < t → FirstFit g units s₀ i t₀ last s t
     trying-out last l = record {
       kept = w .kept;
       from = w .from;
@@ -118,7 +118,7 @@ module _ {g : Graph} {units s₀ : List ℕ} {i t₀ : ℕ} where
 
 -- ---- all are placed
 -- a row that is as the row asked after does not come after it; any other that is complete is the one row that completes it
-pub done : {j : Job} {i : ℕ} {s : List ℕ} (tight : Bool) → i ≡ many (j .graph) → Ready j s i tight → Searched j s i tight s (not tight)
+pub done : {j : Job} {i : ℕ} {s : List ℕ} (equal : Bool) → i ≡ many (j .graph) → Ready j s i equal → Searched j s i equal s (not equal)
 done {j} {i} {s} true all r = record {
   kept = same-refl i s;
   yes = λ x. absurd (clash x refl);
@@ -146,19 +146,19 @@ sized-as s′ e z = record {
 
 -- ---- the loop over the starts of operation i
 -- s₀ is the row as it came, s the row now, and t the next start at which i fits, if it is not past the window
-pub record Loop (j : Job) (s₀ : List ℕ) (i : ℕ) (tight : Bool) (s : List ℕ) (t : ℕ) : Type 0 where
+pub record Loop (j : Job) (s₀ : List ℕ) (i : ℕ) (equal : Bool) (s : List ℕ) (t : ℕ) : Type 0 where
   pub inside : i < many (j .graph)
-  pub ready : Ready j s₀ i tight
+  pub ready : Ready j s₀ i equal
   pub kept : Same i s s₀
   pub long : length s ≡ length s₀
   pub from : at (j .early) i ≤ t
-  pub above : tight ≡ true → at (j .after) i ≤ t
-  pub passed : (q : List ℕ) → Completes j s₀ i tight q → t ≤ at q i
+  pub above : equal ≡ true → at (j .after) i ≤ t
+  pub passed : (q : List ℕ) → Completes j s₀ i equal q → t ≤ at q i
   pub here : t ≤ at (j .late) i → at s i ≡ t
   pub fits : t ≤ at (j .late) i → Fits (j .graph) (j .units) s i
 
 -- a row that is ready stays so while the entries below i and its length stay
-ready-as : {j : Job} {i : ℕ} {s s′ : List ℕ} {tight : Bool} → Same i s′ s → length s′ ≡ length s → Ready j s i tight → Ready j s′ i tight
+ready-as : {j : Job} {i : ℕ} {s s′ : List ℕ} {equal : Bool} → Same i s′ s → length s′ ≡ length s → Ready j s i equal → Ready j s′ i equal
 ready-as {s′ = s′} same long r = record {
   sized = sized-as s′ long (r .sized);
   inside = r .inside;
@@ -167,26 +167,26 @@ ready-as {s′ = s′} same long r = record {
 }
 
 -- what the search answers goes by the entries below i
-pub searched-as : {j : Job} {i : ℕ} {s s′ r : List ℕ} {tight found : Bool} → Same i s′ s → Searched j s′ i tight r found → Searched j s i tight r found
-searched-as {j} {i} {s} {s′} {tight = tight} same f = record {
+pub searched-as : {j : Job} {i : ℕ} {s s′ r : List ℕ} {equal found : Bool} → Same i s′ s → Searched j s′ i equal r found → Searched j s i equal r found
+searched-as {j} {i} {s} {s′} {equal = equal} same f = record {
   kept = same-trans (f .kept) same;
   yes = λ on. over same (f .yes on);
   least = λ on q c. f .least on q (over (same-sym same) c);
   none = λ off q c. f .none off q (over (same-sym same) c);
 }
   where
-    over : {a b q : List ℕ} → Same i a b → Completes j a i tight q → Completes j b i tight q
+    over : {a b q : List ℕ} → Same i a b → Completes j a i equal q → Completes j b i equal q
     over e c = record { placed = c .placed; same = same-trans (c .same) e; later = c .later }
 
 -- what `fitting` asks of a row that is ready, with i still unplaced
-pub ready-fits : {j : Job} {i : ℕ} {s : List ℕ} {tight : Bool} → i < many (j .graph) → Ready j s i tight
+pub ready-fits : {j : Job} {i : ℕ} {s : List ℕ} {equal : Bool} → i < many (j .graph) → Ready j s i equal
     → (i < many (j .graph)) × (i < length s) × Sound (j .graph) × (at (j .late) i ≤ limit.steps)
 ready-fits inside r = (inside, omega (arith, r .sized .row), r .sized .sound, r .sized .few _ inside)
 
 -- what completes s₀ fits at i, so it has no start there that was skipped
-not-skipped : {j : Job} {i b t : ℕ} {s₀ s s′ : List ℕ} {tight : Bool} → i < many (j .graph) → Same i s s₀
-    → Tried (j .graph) (j .units) s i b (at (j .late) i) s′ t
-    → (q : List ℕ) → Completes j s₀ i tight q → b ≤ at q i → t ≤ at q i
+not-skipped : {j : Job} {i b t : ℕ} {s₀ s s′ : List ℕ} {equal : Bool} → i < many (j .graph) → Same i s s₀
+    → FirstFit (j .graph) (j .units) s i b (at (j .late) i) s′ t
+    → (q : List ℕ) → Completes j s₀ i equal q → b ≤ at q i → t ≤ at q i
 not-skipped {i = i} {t = t} inside kept tried q c low =
     ⊎-elim
     (λ h. absurd (tried .skipped q (same-trans (c .same) (same-sym kept)) low h (c .placed .fits i inside)))
@@ -194,9 +194,9 @@ not-skipped {i = i} {t = t} inside kept tried q c low =
     (lt-or-le (at q i) t)
 
 -- the loop begins at the first start at which i fits
-pub loop-begins : {j : Job} {i b t : ℕ} {s₀ s : List ℕ} {tight : Bool} → i < many (j .graph) → Ready j s₀ i tight
-    → Begins tight (at (j .early) i) (at (j .after) i) b
-    → Tried (j .graph) (j .units) s₀ i b (at (j .late) i) s t → length s ≡ length s₀ → Loop j s i tight s t
+pub loop-begins : {j : Job} {i b t : ℕ} {s₀ s : List ℕ} {equal : Bool} → i < many (j .graph) → Ready j s₀ i equal
+    → Begins equal (at (j .early) i) (at (j .after) i) b
+    → FirstFit (j .graph) (j .units) s₀ i b (at (j .late) i) s t → length s ≡ length s₀ → Loop j s i equal s t
 loop-begins {i = i} {s = s} inside r b tried long =
     let ready = ready-as (tried .kept) long r in
     record {
@@ -214,13 +214,13 @@ loop-begins {i = i} {s = s} inside r b tried long =
       fits = tried .fits;
     }
 
-module _ {j : Job} {i t : ℕ} {s₀ s : List ℕ} {tight : Bool} (w : Loop j s₀ i tight s t) where
+module _ {j : Job} {i t : ℕ} {s₀ s : List ℕ} {equal : Bool} (w : Loop j s₀ i equal s t) where
   -- what `fitting` asks in the loop, of a row as long
   pub loop-fits : (s′ : List ℕ) → length s′ ≡ length s → (i < many (j .graph)) × (i < length s′) × Sound (j .graph) × (at (j .late) i ≤ limit.steps)
   loop-fits s′ e = (w .inside, omega (arith, w .long, w .ready .sized .row, w .inside), w .ready .sized .sound, w .ready .sized .few i (w .inside))
 
   -- no start in the window is left, and all were passed
-  pub loop-out : at (j .late) i < t → Searched j s₀ i tight s false
+  pub loop-out : at (j .late) i < t → Searched j s₀ i equal s false
   loop-out l = record {
     kept = w .kept;
     yes = λ x. absurd (clash x refl);
@@ -228,7 +228,7 @@ module _ {j : Job} {i t : ℕ} {s₀ s : List ℕ} {tight : Bool} (w : Loop j s�
     none = λ x q c. omega (arith, w .passed q c, c .placed .high i (w .inside));
   }
 
-  module _ {deeper : Bool} (fit : t ≤ at (j .late) i) (stays : Stays tight t (at (j .after) i) deeper) where
+  module _ {deeper : Bool} (fit : t ≤ at (j .late) i) (stays : StaysEqual equal t (at (j .after) i) deeper) where
     -- the row with t at i is ready for the next operation
     pub loop-ready : Ready j s (i + 1) deeper
     loop-ready =
@@ -242,13 +242,13 @@ module _ {j : Job} {i t : ℕ} {s₀ s : List ℕ} {tight : Bool} (w : Loop j s�
         }
 
     -- with t at i, what completes the row comes after the row asked after exactly where it does so further on
-    loosen : {q : List ℕ} → Completes j s (i + 1) tight q → Completes j s (i + 1) deeper q
+    loosen : {q : List ℕ} → Completes j s (i + 1) equal q → Completes j s (i + 1) deeper q
     loosen c = record { placed = c .placed; same = c .same; later = λ e. c .later (stays .was e) }
 
-    tighten : {q : List ℕ} → Completes j s (i + 1) deeper q → Completes j s (i + 1) tight q
+    tighten : {q : List ℕ} → Completes j s (i + 1) deeper q → Completes j s (i + 1) equal q
     tighten {q} c = record { placed = c .placed; same = c .same; later = λ on. go on deeper refl }
       where
-        go : tight ≡ true → (d : Bool) → deeper ≡ d → Before (many (j .graph)) (j .after) q
+        go : equal ≡ true → (d : Bool) → deeper ≡ d → Before (many (j .graph)) (j .after) q
         go on true e = c .later e
         go on false e =
             before-here (w .inside)
@@ -256,14 +256,14 @@ module _ {j : Job} {i t : ℕ} {s₀ s : List ℕ} {tight : Bool} (w : Loop j s�
             (omega (arith, w .above on, stays .apart e on, w .here fit, c .same .upto i (omega arith)))
 
     -- what completes s₀ with t at i completes s, and the other way round
-    onto : {q : List ℕ} → Completes j s₀ i tight q → at q i ≡ t → Completes j s (i + 1) tight q
+    onto : {q : List ℕ} → Completes j s₀ i equal q → at q i ≡ t → Completes j s (i + 1) equal q
     onto c e = record {
       placed = c .placed;
       same = same-more (same-trans (c .same) (same-sym (w .kept))) (e ∙ sym (w .here fit));
       later = c .later;
     }
 
-    back : {q : List ℕ} → Completes j s (i + 1) tight q → Completes j s₀ i tight q
+    back : {q : List ℕ} → Completes j s (i + 1) equal q → Completes j s₀ i equal q
     back c = record {
       placed = c .placed;
       same = same-trans (same-down (omega arith) (c .same)) (w .kept);
@@ -275,7 +275,7 @@ module _ {j : Job} {i t : ℕ} {s₀ s : List ℕ} {tight : Bool} (w : Loop j s�
       low = same-trans (same-down (omega arith) (f .kept)) (w .kept)
 
       -- found below t: it is the least, since a row with a smaller start at i was passed and one with a greater comes later
-      pub loop-found : found ≡ true → Searched j s₀ i tight s′ true
+      pub loop-found : found ≡ true → Searched j s₀ i equal s′ true
       loop-found on = record {
         kept = low;
         yes = λ x. back (tighten (f .yes on));
@@ -287,8 +287,8 @@ module _ {j : Job} {i t : ℕ} {s₀ s : List ℕ} {tight : Bool} (w : Loop j s�
       }
 
       -- nothing below t: the next start at which i fits is tried
-      pub loop-more : {s″ : List ℕ} {t′ : ℕ} → found ≡ false → length s′ ≡ length s → Tried (j .graph) (j .units) s′ i (t + 1) (at (j .late) i) s″ t′
-          → length s″ ≡ length s′ → Loop j s₀ i tight s″ t′
+      pub loop-more : {s″ : List ℕ} {t′ : ℕ} → found ≡ false → length s′ ≡ length s → FirstFit (j .graph) (j .units) s′ i (t + 1) (at (j .late) i) s″ t′
+          → length s″ ≡ length s′ → Loop j s₀ i equal s″ t′
       loop-more off same tried long = record {
         inside = w .inside;
         ready = w .ready;
@@ -307,7 +307,7 @@ module _ {j : Job} {i t : ℕ} {s₀ s : List ℕ} {tight : Bool} (w : Loop j s�
       }
 
 -- the ends of a sound graph's edges can be linked
-pub sound-ends : {g : Graph} → Sound g → Ends (g .from) × Ends (g .to) × (length (g .from) ≡ length (g .to))
+pub sound-ends : {g : Graph} → Sound g → LinkableEnds (g .from) × LinkableEnds (g .to) × (length (g .from) ≡ length (g .to))
 sound-ends z = (
   record { few = z .few-edges; inside = λ e l. omega (arith, z .source-in e l, z .few) },
   record { few = omega (arith, z .few-edges, z .even-ends); inside = λ e l. omega (arith, z .target-in e (omega (arith, z .even-ends)), z .few) },
@@ -319,5 +319,5 @@ pub sized-own : {j : Job} {s : List ℕ} (s′ : List ℕ) → limit.operations 
 sized-own s′ l z = record { sound = z .sound; few = z .few; after = z .after; row = omega (arith, z .sound .few) }
 
 -- nothing is placed yet
-pub ready-none : {j : Job} {s : List ℕ} (tight : Bool) → Sized j s → Ready j s 0 tight
-ready-none {j} {s} tight z = record { sized = z; inside = omega arith; placed = placed-none; same = λ on. same-none (j .after) s }
+pub ready-none : {j : Job} {s : List ℕ} (equal : Bool) → Sized j s → Ready j s 0 equal
+ready-none {j} {s} equal z = record { sized = z; inside = omega arith; placed = placed-none; same = λ on. same-none (j .after) s }

@@ -8,12 +8,12 @@ use native.Mathlib.Nat.{eq-or-lt-of-le, le-of-suc-le-suc}
 use native.Mathlib.Numerals.{add-one}
 use native.Mathlib.Omega.{arith}
 use lib.ListN.{length, take}
-use Rattle.laws.specs.Tests.{two, clash}
-use Rattle.laws.specs.Rows.{at, take-at, take-long}
-use Rattle.laws.specs.Sum.{sum}
-use Rattle.laws.specs.Count.{count, count-no, count-start}
-use Rattle.laws.specs.Words.{Same, Before}
-use Rattle.laws.specs.WordLaws.{same-none, same-sym, before-same}
+use Rattle.maths.specs.Tests.{two, clash}
+use Rattle.maths.specs.Rows.{at, take-at, take-long}
+use Rattle.maths.specs.Sum.{sum}
+use Rattle.maths.specs.Count.{count, count-no, count-start}
+use Rattle.maths.specs.Words.{Same, Before}
+use Rattle.maths.specs.WordLaws.{same-none, same-sym, before-same}
 use Rattle.model.specs.Graph.{order, many, typeOf, Sound}
 use Rattle.model.specs.Tables.{Earliest, Latest}
 use Rattle.model.specs.Use.{runs, Lawful}
@@ -21,8 +21,8 @@ use Rattle.theory.specs.unit_use.RunningAndPeak.{runs-true, runningFirst}
 use Rattle.theory.specs.lister.Windows.{lawful-in-window}
 use Rattle.model.specs.Listing.{Later, Least, NoneLeft, Gives}
 use Rattle.model.specs.declared.Listed.{Listed}
-use Rattle.running.specs.InUse.{in-use-is}
-use Rattle.fit.specs.Fit.{higher}
+use Rattle.unit_use.specs.FirstInUse.{in-use-is}
+use Rattle.placement.specs.Fit.{higher}
 use Rattle.lister.specs.Search.{Job, Placed, Completes, Searched}
 use Rattle.lister.specs.Asking.{askedOf, Given, Sought}
 use Rattle.lister.proofs.Turns.{placed-local}
@@ -103,38 +103,38 @@ module _ (j : Job) (sound : Sound (j .graph)) (bound : ℕ) (early : Earliest (o
   later-on false row t h e = absurd (clash e refl)
 
   -- ---- the search from nothing placed answers the question
-  module _ {s s′ : List ℕ} {tight found : Bool} (f : Searched j s 0 tight s′ found) where
-    completes : (u : List ℕ) → Lawful (j .graph) (j .units) bound u → Later (many (j .graph)) (askedOf tight (j .after)) u → Completes j s 0 tight u
-    completes u h l = record { placed = lawful-placed u h; same = same-none u s; later = later-on tight (j .after) u l }
+  module _ {s s′ : List ℕ} {equal found : Bool} (f : Searched j s 0 equal s′ found) where
+    completes : (u : List ℕ) → Lawful (j .graph) (j .units) bound u → Later (many (j .graph)) (askedOf equal (j .after)) u → Completes j s 0 equal u
+    completes u h l = record { placed = lawful-placed u h; same = same-none u s; later = later-on equal (j .after) u l }
 
     search-least : many (j .graph) ≤ length s′ → found ≡ true
-        → Least (j .graph) (j .units) bound (askedOf tight (j .after)) (take (many (j .graph)) s′)
+        → Least (j .graph) (j .units) bound (askedOf equal (j .after)) (take (many (j .graph)) s′)
     search-least room on =
         let c = f .yes on in
         let starts = take (many (j .graph)) s′ in
         let same : Same (many (j .graph)) s′ starts = record { upto = λ i b. sym (take-at (many (j .graph)) s′ i b) } in
         record {
           lawful = placed-lawful starts (take-long (many (j .graph)) s′ room) (placed-local same (c .placed));
-          later = later-of tight (j .after) starts (λ e. before-same (c .later e) same);
+          later = later-of equal (j .after) starts (λ e. before-same (c .later e) same);
           none-between = λ u h l b. f .least on u (completes u h l) (before-same b (same-sym same));
         }
 
-    search-none : found ≡ false → NoneLeft (j .graph) (j .units) bound (askedOf tight (j .after))
+    search-none : found ≡ false → NoneLeft (j .graph) (j .units) bound (askedOf equal (j .after))
     search-none off = record { none-later = λ u h l. f .none off u (completes u h l) }
 
 -- what the search found is the least schedule; what it did not find does not exist
-pub sought : {j : Job} → Sound (j .graph) → {s s′ before after : List ℕ} {tight : Bool} (found : Bool) {r : Listed} → Searched j s 0 tight s′ found
-    → many (j .graph) ≤ length s′ → Given (take (many (j .graph)) s′) found before r after → Sought j tight before r after
+pub sought : {j : Job} → Sound (j .graph) → {s s′ before after : List ℕ} {equal : Bool} (found : Bool) {r : Listed} → Searched j s 0 equal s′ found
+    → many (j .graph) ≤ length s′ → Given (take (many (j .graph)) s′) found before r after → Sought j equal before r after
 unfolding Gives
-sought {j} sound {s′ = s′} {before} {after} {tight} true f room g =
-    subst (λ (x : Listed). Sought j tight before x after) (sym (g .is-found refl))
+sought {j} sound {s′ = s′} {before} {after} {equal} true f room g =
+    subst (λ (x : Listed). Sought j equal before x after) (sym (g .is-found refl))
     (record {
       passes = refl;
       gives = λ bound early late.
           record { row = take (many (j .graph)) s′; is = search-least j sound bound early late f room refl; written = g .written refl };
     })
-sought {j} sound {before = before} {after} {tight} false f room g =
-    subst (λ (x : Listed). Sought j tight before x after) (sym (g .is-none refl))
+sought {j} sound {before = before} {after} {equal} false f room g =
+    subst (λ (x : Listed). Sought j equal before x after) (sym (g .is-none refl))
     (record {
       passes = refl;
       gives = λ bound early late. record { none = search-none j sound bound early late f refl; kept = g .kept refl };

@@ -1,3 +1,3 @@
 pub mod Search
 pub mod Asking
-pub mod One
+pub mod OneAnswer

@@ -4,11 +4,11 @@ use mathlib.Core.Bool.{Bool, true, false}
 use mathlib.Core.List.{List}
 use Prim.Native.Nat.{ℕ, _-_, _<_, _≤_}
 use lib.ListN.{length}
-use Rattle.laws.specs.Rows.{at, tabulate}
-use Rattle.laws.specs.Words.{Same, Before}
+use Rattle.maths.specs.Rows.{at, tabulate}
+use Rattle.maths.specs.Words.{Same, Before}
 use Rattle.model.specs.Limits as limit
 use Rattle.model.specs.Graph.{Graph, many, lent, Sound}
-use Rattle.fit.specs.Fit.{Fits}
+use Rattle.placement.specs.Fit.{Fits}
 
 -- a graph, unit counts, the first and the last start of each operation's window, and the row asked after
 pub record Job : Type 0 where
@@ -36,41 +36,41 @@ pub record Placed (j : Job) (m : ℕ) (s : List ℕ) : Type 0 where
   pub high : (i : ℕ) → i < m → at s i ≤ at (j .late) i
   pub fits : (i : ℕ) → i < m → Fits (j .graph) (j .units) s i
 
--- i operations are placed; they are as in the row asked after where `tight`
-pub record Ready (j : Job) (s : List ℕ) (i : ℕ) (tight : Bool) : Type 0 where
+-- i operations are placed; they are as in the row asked after where `equal`
+pub record Ready (j : Job) (s : List ℕ) (i : ℕ) (equal : Bool) : Type 0 where
   pub sized : Sized j s
   pub inside : i ≤ many (j .graph)
   pub placed : Placed j i s
-  pub same : tight ≡ true → Same i (j .after) s
+  pub same : equal ≡ true → Same i (j .after) s
 
--- q completes s, of which i operations are placed, and comes after the row asked after where `tight`
-pub record Completes (j : Job) (s : List ℕ) (i : ℕ) (tight : Bool) (q : List ℕ) : Type 0 where
+-- q completes s, of which i operations are placed, and comes after the row asked after where `equal`
+pub record Completes (j : Job) (s : List ℕ) (i : ℕ) (equal : Bool) (q : List ℕ) : Type 0 where
   pub placed : Placed j (many (j .graph)) q
   pub same : Same i q s
-  pub later : tight ≡ true → Before (many (j .graph)) (j .after) q
+  pub later : equal ≡ true → Before (many (j .graph)) (j .after) q
 
 -- the search for the least row that completes s found one, s′, or there is none
-pub record Searched (j : Job) (s : List ℕ) (i : ℕ) (tight : Bool) (s′ : List ℕ) (found : Bool) : Type 0 where
+pub record Searched (j : Job) (s : List ℕ) (i : ℕ) (equal : Bool) (s′ : List ℕ) (found : Bool) : Type 0 where
   pub kept : Same i s′ s
-  pub yes : found ≡ true → Completes j s i tight s′
-  pub least : found ≡ true → (q : List ℕ) → Completes j s i tight q → Before (many (j .graph)) q s′ → ⊥
-  pub none : found ≡ false → (q : List ℕ) → Completes j s i tight q → ⊥
+  pub yes : found ≡ true → Completes j s i equal s′
+  pub least : found ≡ true → (q : List ℕ) → Completes j s i equal q → Before (many (j .graph)) q s′ → ⊥
+  pub none : found ≡ false → (q : List ℕ) → Completes j s i equal q → ⊥
 
 -- ---- one operation
--- r is the first start to try: the window's first, and not before the row asked after where `tight`
-pub record Begins (tight : Bool) (early after r : ℕ) : Type 0 where
+-- r is the first start to try: the window's first, and not before the row asked after where `equal`
+pub record Begins (equal : Bool) (early after r : ℕ) : Type 0 where
   pub low : early ≤ r
-  pub above : tight ≡ true → after ≤ r
-  pub least : (t : ℕ) → early ≤ t → (tight ≡ true → after ≤ t) → r ≤ t
+  pub above : equal ≡ true → after ≤ r
+  pub least : (t : ℕ) → early ≤ t → (equal ≡ true → after ≤ t) → r ≤ t
 
 -- whether a row that is as the row asked after so far stays so with t behind it
-pub record Stays (tight : Bool) (t after : ℕ) (r : Bool) : Type 0 where
-  pub was : r ≡ true → tight ≡ true
+pub record StaysEqual (equal : Bool) (t after : ℕ) (r : Bool) : Type 0 where
+  pub was : r ≡ true → equal ≡ true
   pub same : r ≡ true → t ≡ after
-  pub apart : r ≡ false → tight ≡ true → t ≡ after → ⊥
+  pub apart : r ≡ false → equal ≡ true → t ≡ after → ⊥
 
 -- r is the first start from t to `last` at which operation i fits, and s′ has it; or r is past the last
-pub record Tried (g : Graph) (units s : List ℕ) (i t last : ℕ) (s′ : List ℕ) (r : ℕ) : Type 0 where
+pub record FirstFit (g : Graph) (units s : List ℕ) (i t last : ℕ) (s′ : List ℕ) (r : ℕ) : Type 0 where
   pub kept : Same i s′ s
   pub from : t ≤ r
   pub skipped : (q : List ℕ) → Same i q s → t ≤ at q i → at q i < r → Fits g units q i → ⊥

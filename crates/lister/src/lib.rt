@@ -14,14 +14,14 @@ ghost use mathlib.Core.Bool.{true, false};
 ghost use mathlib.Core.Option.{none, some};
 ghost use mathlib.Core.List.{List};
 ghost use lib.ListN.{length, take};
-ghost use Rattle.laws.specs.Cases.{Tells};
+ghost use Rattle.maths.specs.Cases.{Tells};
 ghost use Rattle.model.specs.Order.{ordered, Closed};
 ghost use Rattle.model.specs.Graph.{lent};
 ghost use Rattle.model.specs.Tables.{Earliest};
 ghost use Rattle.model.specs.Limits as limit;
 ghost use Rattle.model.specs.Listing.{product, ListerAnswer};
 ghost use Rattle.lister.specs.Search.{job, Sized, spans, Windows};
-ghost use Rattle.lister.specs.Asking.{askedOf, Matched, Begun, Bounded, Given, Sought};
+ghost use Rattle.lister.specs.Asking.{askedOf, Matched, FrontAdmitted, BackAdmitted, Given, Sought};
 
 // Refusals 1 to 7, and the earliest starts. A cycle is shown in `out`; any other refusal leaves it, and so does a pass.
 fn earliest_starts(
@@ -36,13 +36,22 @@ fn earliest_starts(
     out: &mut [u16],
 ) -> Answer
     requires { ⌜ (matched ≡ true → length (now units) ≡ kinds) ⌝ }
-    ensures { λ r. ⌜ Begun (lent (now (delays .entry)) (now (types .entry)) kinds (now (from .entry)) (now (to .entry))) (now (units .entry)) (matched ≡ false) (now (out .entry)) r (now (starts .exit)) (now (out .exit)) ⌝ }
+    ensures { λ r. ⌜ FrontAdmitted (lent (now (delays .entry)) (now (types .entry)) kinds (now (from .entry)) (now (to .entry))) (now (units .entry)) (matched ≡ false) (now (out .entry)) r (now (starts .exit)) (now (out .exit)) ⌝ }
 {
     let room = out.len();
-    let fault = graph::front_unit_fault(delays, types, kinds, from, to, units, matched, room);
+    let fault = admission::graph::front_unit_fault(
+        delays,
+        types,
+        kinds,
+        from,
+        to,
+        units,
+        matched,
+        room,
+    );
     match fault {
         Answer::Refused(why) => Answer::Refused(why),
-        Answer::Done => precedence::place(delays, from, to, starts, out),
+        Answer::Done => admission::precedence::place(delays, from, to, starts, out),
     }
 }
 
@@ -87,7 +96,7 @@ fn windows(
 ) -> Bound
     requires { ⌜ Closed (ordered (now delays) (now from) (now to)) ⌝ }
     requires { ⌜ Earliest (ordered (now delays) (now from) (now to)) (now early) ⌝ }
-    ensures { λ r. ⌜ ((types : List ℕ) (kinds : ℕ) → Bounded (lent (now (delays .entry)) types kinds (now (from .entry)) (now (to .entry))) bound (r .answer) (r .late)) ⌝ }
+    ensures { λ r. ⌜ ((types : List ℕ) (kinds : ℕ) → BackAdmitted (lent (now (delays .entry)) types kinds (now (from .entry)) (now (to .entry))) bound (r .answer) (r .late)) ⌝ }
 {
     if STEPS < bound {
         return Bound {
@@ -95,7 +104,7 @@ fn windows(
             late: [0u16; OPERATIONS],
         };
     }
-    if bound < rows::latency(delays, early) {
+    if bound < latency::latency(delays, early) {
         return Bound {
             answer: Answer::Refused(Refusal::BoundTooSmall),
             late: [0u16; OPERATIONS],
@@ -120,7 +129,7 @@ fn give(row: &[u16; OPERATIONS], n: usize, found: bool, out: &mut [u16]) -> List
     ensures { λ r. ⌜ Given (take n (now (row .entry))) found (now (out .entry)) r (now (out .exit)) ⌝ }
 {
     if found {
-        graph::fill(row, n, out);
+        admission::graph::fill(row, n, out);
         return Listed::Found;
     }
     Listed::NoneLeft
@@ -136,13 +145,13 @@ fn seek(
     early: &[u16; OPERATIONS],
     late: &[u16; OPERATIONS],
     after: &[u16],
-    tight: bool,
+    equal: bool,
     out: &mut [u16],
 ) -> Listed
     requires { ⌜ Sized (job (now delays) (now types) (now from) (now to) (now units) (now early) (now late) (now after)) (now out) ⌝ }
-    ensures { λ r. ⌜ Sought (job (now (delays .entry)) (now (types .entry)) (now (from .entry)) (now (to .entry)) (now (units .entry)) (now (early .entry)) (now (late .entry)) (now (after .entry))) tight (now (out .entry)) r (now (out .exit)) ⌝ }
+    ensures { λ r. ⌜ Sought (job (now (delays .entry)) (now (types .entry)) (now (from .entry)) (now (to .entry)) (now (units .entry)) (now (early .entry)) (now (late .entry)) (now (after .entry))) equal (now (out .entry)) r (now (out .exit)) ⌝ }
 {
-    let links = fit::higher_links(from, to);
+    let links = placement::higher_links(from, to);
     let mut row = [0u16; OPERATIONS];
     let found = place(
         delays,
@@ -156,13 +165,13 @@ fn seek(
         after,
         &mut row,
         0,
-        tight,
+        equal,
     );
     give(&row, delays.len(), found, out)
 }
 
 // Refusals 1 to 10, then the search. `matched` tells that the rows that only the lister takes have the length that they must have;
-// where `tight`, the schedule comes after `after`.
+// where `equal`, the schedule comes after `after`, to which the row is equal so far, with nothing placed.
 fn ask(
     delays: &[u8],
     types: &[u8],
@@ -173,11 +182,11 @@ fn ask(
     bound: usize,
     matched: bool,
     after: &[u16],
-    tight: bool,
+    equal: bool,
     out: &mut [u16],
 ) -> Listed
-    requires { ⌜ Matched (lent (now delays) (now types) kinds (now from) (now to)) (now units) tight (now after) matched ⌝ }
-    ensures { λ r. ⌜ ListerAnswer (lent (now (delays .entry)) (now (types .entry)) kinds (now (from .entry)) (now (to .entry))) (now (units .entry)) bound (askedOf tight (now (after .entry))) (now (out .entry)) r (now (out .exit)) ⌝ }
+    requires { ⌜ Matched (lent (now delays) (now types) kinds (now from) (now to)) (now units) equal (now after) matched ⌝ }
+    ensures { λ r. ⌜ ListerAnswer (lent (now (delays .entry)) (now (types .entry)) kinds (now (from .entry)) (now (to .entry))) (now (units .entry)) bound (askedOf equal (now (after .entry))) (now (out .entry)) r (now (out .exit)) ⌝ }
 {
     let mut early = [0u16; OPERATIONS];
     let begun = earliest_starts(
@@ -208,7 +217,7 @@ fn ask(
                     &early,
                     &late,
                     after,
-                    tight,
+                    equal,
                     out,
                 ),
             }
@@ -230,7 +239,7 @@ pub fn first(
     ensures { λ r. ⌜ ListerAnswer (lent (now (delays .entry)) (now (types .entry)) kinds (now (from .entry)) (now (to .entry))) (now (units .entry)) bound none (now (out .entry)) r (now (out .exit)) ⌝ }
 {
     let blank = [0u16; OPERATIONS];
-    let matched = graph::rows_match(units.len(), kinds, 0, 0);
+    let matched = admission::graph::rows_match(units.len(), kinds, 0, 0);
     ask(
         delays,
         types,
@@ -260,7 +269,7 @@ pub fn next(
 ) -> Listed
     ensures { λ r. ⌜ ListerAnswer (lent (now (delays .entry)) (now (types .entry)) kinds (now (from .entry)) (now (to .entry))) (now (units .entry)) bound (some (now (after .entry))) (now (out .entry)) r (now (out .exit)) ⌝ }
 {
-    let matched = graph::rows_match(units.len(), kinds, after.len(), delays.len());
+    let matched = admission::graph::rows_match(units.len(), kinds, after.len(), delays.len());
     ask(
         delays,
         types,

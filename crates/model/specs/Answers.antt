@@ -6,12 +6,12 @@ use mathlib.Core.List.{List}
 use Prim.Native.Nat.{ℕ}
 use lib.Dec.{eqb}
 use lib.ListN.{length}
-use Rattle.laws.specs.Rows.{over}
+use Rattle.maths.specs.Rows.{over}
 use Rattle.model.specs.Order.{Order}
 use Rattle.model.specs.Graph.{Graph, order}
 use Rattle.model.specs.Cycle.{Shown}
 use Rattle.model.specs.Tables.{Asap, Alap, Mobility}
-use Rattle.model.specs.Refusals.{Rule, First, asapChecks, alapChecks}
+use Rattle.model.specs.Refusals.{Check, First, asapChecks, alapChecks}
 use Rattle.model.specs.declared.Refusal.{Refusal}
 use Rattle.model.specs.declared.Refusal.the-variants.{TooLarge, Uneven, Operation, Edge, ShortOutput, NoUnit, Cycle, BoundTooLarge, BoundTooSmall, TooManyWindows, Step, Channel, Range}
 use Rattle.model.specs.declared.Answer.{Answer}
@@ -60,7 +60,7 @@ pub record Fills (Is : List ℕ → Type 0) (before after : List ℕ) : Type 0 w
   pub written : after ≡ over row before
 
 -- a question with an output row: the first of its checks that applies is given, and the row is left accordingly
-pub record Answered (o : Order) (checks : List Rule) (before : List ℕ) (Given : List ℕ → Type 0) (refusal : Option (ℕ × ℕ)) (after : List ℕ) : Type 0 where
+pub record Answered (o : Order) (checks : List Check) (before : List ℕ) (Given : List ℕ → Type 0) (refusal : Option (ℕ × ℕ)) (after : List ℕ) : Type 0 where
   pub first : First checks refusal
   pub row : RowAfter o before Given refusal after
 

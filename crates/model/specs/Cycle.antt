@@ -3,8 +3,8 @@ use mathlib.Core.Path.{_≡_}
 use mathlib.Core.List.{List}
 use Prim.Native.Nat.{ℕ, _+_, _-_, _<_, _≤_}
 use lib.ListN.{length}
-use Rattle.laws.specs.Rows.{at}
-use Rattle.laws.specs.Lowest.{Lowest}
+use Rattle.maths.specs.Rows.{at}
+use Rattle.maths.specs.Lowest.{Lowest}
 use Rattle.model.specs.Order.{Order, size, Edge, Kept}
 
 -- j is kept and an edge leads from it to i

@@ -2,8 +2,8 @@
 use mathlib.Core.Path.{_≡_}
 use mathlib.Core.List.{List}
 use Prim.Native.Nat.{ℕ, _+_, _<_}
-use Rattle.laws.specs.Rows.{at}
-use Rattle.laws.specs.Lowest.{None}
+use Rattle.maths.specs.Rows.{at}
+use Rattle.maths.specs.Lowest.{None}
 use Rattle.model.specs.Graph.{Graph, order, many, edgesOf, delay}
 use Rattle.model.specs.Order.{source, target}
 use Rattle.model.specs.Use.{running}

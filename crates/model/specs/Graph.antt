@@ -3,7 +3,7 @@ use mathlib.Core.Path.{_≡_}
 use mathlib.Core.List.{List}
 use Prim.Native.Nat.{ℕ, _≤_, _<_}
 use lib.ListN.{length}
-use Rattle.laws.specs.Rows.{at}
+use Rattle.maths.specs.Rows.{at}
 use Rattle.model.specs.Limits as limit
 use Rattle.model.specs.Order.{Order, ordered}
 

@@ -7,16 +7,16 @@ use mathlib.Core.List.{List, [], _∷_, _++_}
 use Prim.Native.Nat.{ℕ, zero, suc, _+_, _*_, _<_}
 use lib.Dec.{leb}
 use lib.ListN.{length}
-use Rattle.laws.specs.Tests.{_and_}
-use Rattle.laws.specs.Rows.{at}
-use Rattle.laws.specs.Count.{every}
-use Rattle.laws.specs.Words.{Before, words, keep}
+use Rattle.maths.specs.Tests.{_and_}
+use Rattle.maths.specs.Rows.{at}
+use Rattle.maths.specs.Count.{every}
+use Rattle.maths.specs.Words.{Before, words, keep}
 use Rattle.model.specs.Limits as limit
 use Rattle.model.specs.Order.{source, target}
 use Rattle.model.specs.Graph.{Graph, order, many, edgesOf, delay}
 use Rattle.model.specs.Tables.{Mobility}
 use Rattle.model.specs.Use.{running, Lawful}
-use Rattle.model.specs.Refusals.{Rule, Flat, shape, output, unitless, cyclic, large-bound, late-bound}
+use Rattle.model.specs.Refusals.{Check, Flat, shape, output, unitless, cyclic, large-bound, late-bound}
 use Rattle.model.specs.Answers.{numbered, Fills, Answered}
 use Rattle.model.specs.declared.Listed as listed
 use Rattle.model.specs.declared.Listed.the-variants as answers
@@ -68,17 +68,17 @@ ListerUneven g units none = length units ≡ g .kinds → ⊥
 ListerUneven g units (some row) = (length units ≡ g .kinds → ⊥) ⊎ (length row ≡ many g → ⊥)
 
 -- refusals 1 to 10
-abbrev pub listerChecks : Graph → List ℕ → ℕ → Option (List ℕ) → ℕ → List Rule
+abbrev pub listerChecks : Graph → List ℕ → ℕ → Option (List ℕ) → ℕ → List Check
 listerChecks g units bound asked room =
     (((shape g (ListerUneven g units asked) ++ output g room) ++ unitless g units) ++ cyclic (order g))
     ++ ((large-bound bound ++ late-bound (order g) bound) ++ (Flat 10 (ManyWindows g bound) ∷ []))
 
 -- ---- the answers
 -- the refusal that the answer gives, if it gives one
-abbrev pub refusalIn : listed.Listed → Option (ℕ × ℕ)
-refusalIn answers.Found = none
-refusalIn answers.NoneLeft = none
-refusalIn (answers.Refused why) = some (numbered why)
+abbrev pub refusalInListed : listed.Listed → Option (ℕ × ℕ)
+refusalInListed answers.Found = none
+refusalInListed answers.NoneLeft = none
+refusalInListed (answers.Refused why) = some (numbered why)
 
 -- none is left, and the output row stays as it was
 pub record Ended (g : Graph) (units : List ℕ) (bound : ℕ) (asked : Option (List ℕ)) (before after : List ℕ) : Type 0 where
@@ -94,7 +94,7 @@ Gives g units bound asked before (answers.Refused why) after = Unit {0}
 -- what `first` (asked after none) and `next` (asked after a row) answer and leave
 abbrev pub ListerAnswer : Graph → List ℕ → ℕ → Option (List ℕ) → List ℕ → listed.Listed → List ℕ → Type 0
 ListerAnswer g units bound asked out r after =
-    Answered (order g) (listerChecks g units bound asked (length out)) out (Gives g units bound asked out r) (refusalIn r) after
+    Answered (order g) (listerChecks g units bound asked (length out)) out (Gives g units bound asked out r) (refusalInListed r) after
 
 -- ---- demand 3
 -- what asking gives, from a schedule on: itself, then the next, and so on until none is left

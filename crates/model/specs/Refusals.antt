@@ -1,28 +1,28 @@
--- Document 01's table: each row is a rule that says a number and a place, and the first that applies is given.
+-- Document 01's table: each row is a check that says a number and a place, and the first that applies is given.
 use mathlib.Core.Path.{_≡_}
 use mathlib.Core.Logic.{_⊎_}
 use mathlib.Core.Option.{Option, none, some}
 use mathlib.Core.List.{List, [], _∷_, _++_}
 use Prim.Native.Nat.{ℕ, _+_, _<_, _≤_}
 use lib.ListN.{length}
-use Rattle.laws.specs.Rows.{at}
-use Rattle.laws.specs.Lowest.{Lowest}
+use Rattle.maths.specs.Rows.{at}
+use Rattle.maths.specs.Lowest.{Lowest}
 use Rattle.model.specs.Limits as limit
 use Rattle.model.specs.Order.{Order}
 use Rattle.model.specs.Graph.{Graph, order, many, edgesOf, delay, typeOf}
 use Rattle.model.specs.Cycle.{Shown}
 use Rattle.model.specs.Tables.{Earliest, Latency}
 
--- what a rule says: a number and a place
-abbrev pub Rule : Type 1
-Rule = ℕ → ℕ → Type 0
+-- what a check says: a number and a place
+abbrev pub Check : Type 1
+Check = ℕ → ℕ → Type 0
 
--- the rule says nothing
-abbrev pub Silent : Rule → Type 0
+-- the check says nothing
+abbrev pub Silent : Check → Type 0
 Silent R = (number place : ℕ) → R number place → ⊥
 
--- the first rule that says something decides
-unfoldable pub First : List Rule → Option (ℕ × ℕ) → Type 0
+-- the first check that says something decides
+unfoldable pub First : List Check → Option (ℕ × ℕ) → Type 0
 First [] none = Unit {0}
 First [] (some r) = ⊥
 First (R ∷ rest) none = Silent R × First rest none
@@ -85,7 +85,7 @@ pub record Late (o : Order) (bound : ℕ) : Type 0 where
   pub below : bound < latency
 
 -- the table's first four rows
-abbrev pub shape : Graph → Type 0 → List Rule
+abbrev pub shape : Graph → Type 0 → List Check
 shape g Own =
     Flat 1 (Large g)
     ∷ (Flat 2 (Uneven g Own)
@@ -94,28 +94,28 @@ shape g Own =
     ∷ [])))
 
 -- the fifth: `room` is the length of the output row
-abbrev pub output : Graph → ℕ → List Rule
+abbrev pub output : Graph → ℕ → List Check
 output g room = Flat 5 (room < many g) ∷ []
 
 -- the sixth
-abbrev pub unitless : Graph → List ℕ → List Rule
+abbrev pub unitless : Graph → List ℕ → List Check
 unitless g units = AtLowest 6 (g .kinds) (NoUnit g units) ∷ []
 
 -- the seventh
-abbrev pub cyclic : Order → List Rule
+abbrev pub cyclic : Order → List Check
 cyclic o = CycleOf o ∷ []
 
 -- the eighth
-abbrev pub large-bound : ℕ → List Rule
+abbrev pub large-bound : ℕ → List Check
 large-bound bound = Flat 8 (limit.steps < bound) ∷ []
 
 -- the ninth
-abbrev pub late-bound : Order → ℕ → List Rule
+abbrev pub late-bound : Order → ℕ → List Check
 late-bound o bound = Flat 9 (Late o bound) ∷ []
 
 -- which rows each question checks, as 01 lists them
-abbrev pub asapChecks : Graph → ℕ → List Rule
+abbrev pub asapChecks : Graph → ℕ → List Check
 asapChecks g room = (shape g ⊥ ++ output g room) ++ cyclic (order g)
 
-abbrev pub alapChecks : Graph → ℕ → ℕ → List Rule
+abbrev pub alapChecks : Graph → ℕ → ℕ → List Check
 alapChecks g bound room = asapChecks g room ++ (large-bound bound ++ late-bound (order g) bound)

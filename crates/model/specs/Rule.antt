@@ -5,9 +5,9 @@ use mathlib.Core.List.{List}
 use Prim.Native.Nat.{ℕ, zero, suc, _+_, _<_, _≤_}
 use lib.Dec.{leb, ltb, eqb}
 use lib.ListN.{length, set, take, replicate}
-use Rattle.laws.specs.Tests.{_and_, _or_, neg}
-use Rattle.laws.specs.Rows.{at, tabulate}
-use Rattle.laws.specs.Count.{count}
+use Rattle.maths.specs.Tests.{_and_, _or_, neg}
+use Rattle.maths.specs.Rows.{at, tabulate}
+use Rattle.maths.specs.Count.{count}
 use Rattle.model.specs.Limits as limit
 use Rattle.model.specs.Order.{Edge, source, target}
 use Rattle.model.specs.Graph.{Graph, order, many, edgesOf, delay, typeOf}
@@ -33,16 +33,16 @@ abbrev pub placed : List ℕ → ℕ → Bool
 placed t i = ltb 0 (at t i)
 
 -- i is placed with t + d ≤ l
-unfoldable pub over : Graph → List ℕ → ℕ → ℕ → Bool
-over g t l i = placed t i and leb (at t i + delay g i) l
+unfoldable pub finished : Graph → List ℕ → ℕ → ℕ → Bool
+finished g t l i = placed t i and leb (at t i + delay g i) l
 
 -- edge e leads to i from an operation that is not placed with t + d ≤ l
-unfoldable pub holds : Graph → List ℕ → ℕ → ℕ → ℕ → Bool
-holds g t l i e = eqb (target (order g) e) i and neg (over g t l (source (order g) e))
+unfoldable pub blocks : Graph → List ℕ → ℕ → ℕ → ℕ → Bool
+blocks g t l i e = eqb (target (order g) e) i and neg (finished g t l (source (order g) e))
 
 -- a candidate is an unplaced operation all of whose predecessors are placed with t + d ≤ l
 unfoldable pub candidate : Graph → List ℕ → ℕ → ℕ → Bool
-candidate g t l i = eqb (at t i) 0 and eqb (count (holds g t l i) (edgesOf g)) 0
+candidate g t l i = eqb (at t i) 0 and eqb (count (blocks g t l i) (edgesOf g)) 0
 
 -- how many operations of type k are running: placed, and t ≤ l < t + busy
 abbrev pub inUse : Graph → List ℕ → ℕ → ℕ → ℕ

@@ -5,11 +5,11 @@ use mathlib.Core.Logic.{_⊎_}
 use mathlib.Core.List.{List, [], _∷_, _++_}
 use Prim.Native.Nat.{ℕ, _+_, _<_}
 use lib.ListN.{length}
-use Rattle.laws.specs.Rows.{at, over}
+use Rattle.maths.specs.Rows.{at, over}
 use Rattle.model.specs.Limits as limit
 use Rattle.model.specs.Graph.{Graph, order, many}
 use Rattle.model.specs.Tables.{Latency}
-use Rattle.model.specs.Refusals.{Rule, First, Flat, shape, output, unitless, cyclic}
+use Rattle.model.specs.Refusals.{Check, First, Flat, shape, output, unitless, cyclic}
 use Rattle.model.specs.Answers.{numbered, Answered}
 use Rattle.model.specs.Rule.{Labels, stepped, AllPlaced, ListStarts}
 use Rattle.model.specs.declared.Scheduled as scheduled
@@ -17,9 +17,9 @@ use Rattle.model.specs.declared.Scheduled.the-variants as answers
 
 -- ---- the list schedule
 -- the refusal that the answer gives, if it gives one
-abbrev pub refusalIn : scheduled.Scheduled → Option (ℕ × ℕ)
-refusalIn (answers.Latency l) = none
-refusalIn (answers.Refused why) = some (numbered why)
+abbrev pub refusalInScheduled : scheduled.Scheduled → Option (ℕ × ℕ)
+refusalInScheduled (answers.Latency l) = none
+refusalInScheduled (answers.Refused why) = some (numbered why)
 
 -- the latency that the answer gives
 abbrev pub latencyIn : scheduled.Scheduled → ℕ
@@ -27,7 +27,7 @@ latencyIn (answers.Latency l) = l
 latencyIn (answers.Refused why) = 0
 
 -- refusals 1 to 7; the units are the row that only some questions take
-abbrev pub listChecks : Graph → List ℕ → ℕ → List Rule
+abbrev pub listChecks : Graph → List ℕ → ℕ → List Check
 listChecks g units room =
     ((shape g (length units ≡ g .kinds → ⊥) ++ output g room) ++ unitless g units) ++ cyclic (order g)
 
@@ -41,7 +41,7 @@ pub record ListGiven (g : Graph) (units before : List ℕ) (l : ℕ) (after : Li
 -- what `list_schedule` answers and leaves
 abbrev pub ListAnswer : Graph → List ℕ → List ℕ → scheduled.Scheduled → List ℕ → Type 0
 ListAnswer g units out r after =
-    Answered (order g) (listChecks g units (length out)) out (ListGiven g units out (latencyIn r)) (refusalIn r) after
+    Answered (order g) (listChecks g units (length out)) out (ListGiven g units out (latencyIn r)) (refusalInScheduled r) after
 
 -- ---- the advance
 -- 11: an operation is unplaced, and the step is outside 1 to the last
@@ -52,7 +52,7 @@ pub record Outside (g : Graph) (t : List ℕ) (step : ℕ) : Type 0 where
   pub out : (step < 1) ⊎ (limit.steps < step)
 
 -- refusals 1 to 4, 6, 7, then 11
-abbrev pub advanceChecks : Graph → List ℕ → List ℕ → ℕ → List Rule
+abbrev pub advanceChecks : Graph → List ℕ → List ℕ → ℕ → List Check
 advanceChecks g units t step =
     ((shape g (length units ≡ g .kinds → ⊥) ++ unitless g units) ++ cyclic (order g)) ++ (Flat 11 (Outside g t step) ∷ [])
 

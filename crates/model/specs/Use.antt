@@ -5,9 +5,9 @@ use mathlib.Core.List.{List}
 use Prim.Native.Nat.{ℕ, _+_, _<_, _≤_}
 use lib.Dec.{leb, ltb, eqb}
 use lib.ListN.{length}
-use Rattle.laws.specs.Rows.{at}
-use Rattle.laws.specs.Tests.{_and_}
-use Rattle.laws.specs.Count.{count}
+use Rattle.maths.specs.Rows.{at}
+use Rattle.maths.specs.Tests.{_and_}
+use Rattle.maths.specs.Count.{count}
 use Rattle.model.specs.Graph.{Graph, order, many, busyTime, typeOf}
 use Rattle.model.specs.Tables.{Keeps, Within}
 

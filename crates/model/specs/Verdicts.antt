@@ -5,11 +5,11 @@ use mathlib.Core.List.{List, _++_}
 use mathlib.Core.Logic.{_⊎_}
 use Prim.Native.Nat.{ℕ, _<_}
 use lib.ListN.{length, replicate}
-use Rattle.laws.specs.Rows.{at}
-use Rattle.laws.specs.Lowest.{Lowest, None}
+use Rattle.maths.specs.Rows.{at}
+use Rattle.maths.specs.Lowest.{Lowest, None}
 use Rattle.model.specs.Limits as limit
 use Rattle.model.specs.Graph.{Graph, order, many, edgesOf}
-use Rattle.model.specs.Refusals.{Rule, First, shape, unitless, cyclic, large-bound}
+use Rattle.model.specs.Refusals.{Check, First, shape, unitless, cyclic, large-bound}
 use Rattle.model.specs.Answers.{numbered, refusalOf}
 use Rattle.model.specs.Use.{Lawful, Peak}
 use Rattle.model.specs.Faults as fault
@@ -19,19 +19,19 @@ use Rattle.model.specs.declared.Verdict.{Verdict}
 use Rattle.model.specs.declared.Peaks.{Peaks}
 
 -- the refusal that a finding gives, if it gives one
-abbrev pub refusalIn : finding.Finding → Option (ℕ × ℕ)
-refusalIn found.Lawful = none
-refusalIn (found.Untimely i) = none
-refusalIn (found.Broken e) = none
-refusalIn (found.OverUse l k) = none
-refusalIn (found.Refused why) = some (numbered why)
+abbrev pub refusalInFinding : finding.Finding → Option (ℕ × ℕ)
+refusalInFinding found.Lawful = none
+refusalInFinding (found.Untimely i) = none
+refusalInFinding (found.Broken e) = none
+refusalInFinding (found.OverUse l k) = none
+refusalInFinding (found.Refused why) = some (numbered why)
 
 -- the lent rows that only the checker takes differ in length: units and K, or starts and n
 abbrev pub CheckUneven : Graph → List ℕ → List ℕ → Type 0
 CheckUneven g units t = (length units ≡ g .kinds → ⊥) ⊎ (length t ≡ many g → ⊥)
 
 -- the checker's refusals: 1 to 4, 6, 7, 8
-abbrev pub checkChecks : Graph → List ℕ → ℕ → List ℕ → List Rule
+abbrev pub checkChecks : Graph → List ℕ → ℕ → List ℕ → List Check
 checkChecks g units bound t = shape g (CheckUneven g units t) ++ (unitless g units ++ (cyclic (order g) ++ large-bound bound))
 
 -- lawful, or the first fault: an untimely operation (the lowest), a broken edge (the lowest), over-use (the earliest step, then the lowest type)
@@ -44,11 +44,11 @@ Finds g units bound t (found.Refused why) = Unit {0}
 
 -- what `check` answers
 pub record Checked (g : Graph) (units : List ℕ) (bound : ℕ) (t : List ℕ) (v : Verdict) : Type 0 where
-  pub first : First (checkChecks g units bound t) (refusalIn (v .finding))
+  pub first : First (checkChecks g units bound t) (refusalInFinding (v .finding))
   pub finds : Finds g units bound t (v .finding)
 
 -- peak use's refusals: 1 to 4 and 7
-abbrev pub peakChecks : Graph → List ℕ → List Rule
+abbrev pub peakChecks : Graph → List ℕ → List Check
 peakChecks g t = shape g (length t ≡ many g → ⊥) ++ cyclic (order g)
 
 -- the four numbers: each type's peak where answered, zeros where refused

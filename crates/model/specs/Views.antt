@@ -7,7 +7,7 @@ use Prim.Native.Nat.{ℕ, _+_, _*_, _<_}
 use lib.ListN.{length, take, drop}
 use lib.Dec.{eqb}
 use denote.Ref.{RefT, now, ptr}
-use Rattle.model.specs.Refusals.{Rule, First, Flat}
+use Rattle.model.specs.Refusals.{Check, First, Flat}
 
 -- a table as it is lent: where it lies, and its entries
 abbrev pub Table : Type 0
@@ -27,7 +27,7 @@ abbrev pub chosen : Table → Table → ℕ → Table
 chosen a b channel = pick (eqb channel 1) a b
 
 -- the two rows of 01's table that a view checks; 13: first + count is past the end of the chosen table
-abbrev pub viewChecks : Table → Table → ℕ → ℕ → ℕ → List Rule
+abbrev pub viewChecks : Table → Table → ℕ → ℕ → ℕ → List Check
 viewChecks a b channel first count =
     Flat 12 (NoChannel channel)
     ∷ (Flat 13 (length (now (chosen a b channel)) < first + count)

@@ -6,8 +6,8 @@ use Prim.Native.Nat.{ℕ, _+_, _≤_, _<_}
 use native.Mathlib.Omega.{arith}
 use lib.ListN.{length, set, replicate, length-set, length-replicate}
 use lib.Seq.{getD-set-same, getD-set-other}
-use Rattle.laws.specs.Cases.{same-or-not}
-use Rattle.laws.specs.Rows.{at, same-row}
+use Rattle.maths.specs.Cases.{same-or-not}
+use Rattle.maths.specs.Rows.{at, same-row}
 use Rattle.model.specs.Limits as limit
 
 pub record Copying (row copy : List ℕ) (i : ℕ) : Type 0 where

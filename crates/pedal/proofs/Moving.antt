@@ -8,7 +8,7 @@ use Prim.Native.Nat.{ℕ}
 use native.Mathlib.Omega.{arith}
 use lib.ListN.{length, take}
 use lib.Seq.{take-all}
-use Rattle.laws.specs.Rows.{over, same-row, over-long, over-front}
+use Rattle.maths.specs.Rows.{over, same-row, over-long, over-front}
 use Rattle.model.specs.Limits as limit
 use Rattle.model.specs.Graph.{Graph}
 use Rattle.model.specs.Refusals.{First, shape}
@@ -18,7 +18,7 @@ use Rattle.theory.specs.list.OneStep.{stepped-long}
 use Rattle.theory.specs.list.OneListAnswer.{all-or-not}
 use Rattle.model.specs.Scheduling.{AdvanceAnswer, StateAfter}
 use Rattle.model.specs.declared.Answer.{Answer}
-use Rattle.pedal.specs.Face.{MoveSaid, filledOf}
+use Rattle.pedal.specs.Face.{AdvanceSaid, filledOf}
 use Rattle.pedal.specs.declared.Filled.{Filled}
 
 -- an advance keeps the number of starts
@@ -42,7 +42,7 @@ over-whole row before a b =
 
 module _ {g : Graph} {units before : List ℕ} {step : ℕ} where
   pub no-state-said : (a : Answer) {said : Filled} → (length before ≡ limit.operations → ⊥) → First (shape g (false ≡ false)) (refusalOf a) → said ≡ filledOf a
-      → MoveSaid g units before step (record { refusal = said .refusal; place = said .place; step = step }) before
+      → AdvanceSaid g units before step (record { refusal = said .refusal; place = said .place; step = step }) before
   no-state-said a {said} n h e = record {
     no-state = λ x. record {
       answer = a;
@@ -54,7 +54,7 @@ module _ {g : Graph} {units before : List ℕ} {step : ℕ} where
 
   pub state-said : (a : Answer) {said : Filled} {row starts after : List ℕ} {next : ℕ} → length before ≡ limit.operations → starts ≡ before
       → AdvanceAnswer g units starts step (refusalOf a) row next → after ≡ over (take limit.operations row) before → said ≡ filledOf a
-      → MoveSaid g units before step (record { refusal = said .refusal; place = said .place; step = next }) after
+      → AdvanceSaid g units before step (record { refusal = said .refusal; place = said .place; step = next }) after
   state-said a {said} {row} {starts} {after} {next} long copy h w e =
       let k : AdvanceAnswer g units before step (refusalOf a) row next =
       subst (λ (t : List ℕ). AdvanceAnswer g units t step (refusalOf a) row next) copy h in

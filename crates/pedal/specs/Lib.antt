@@ -1,2 +1,2 @@
 pub mod Face
-pub mod One
+pub mod OneAnswer

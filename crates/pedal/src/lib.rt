@@ -1,12 +1,8 @@
 // The face for C and Rust: each function hands on exactly what its entry point says, as numbers.
+use list_schedule::State;
 use model::Answer;
 use model::Finding;
-use model::Listed;
-use model::Peaks;
-use model::Scheduled;
-use model::Verdict;
 use model::limits::OPERATIONS;
-use rule::State;
 ghost use mathlib.Core.Path.{_≡_};
 ghost use lib.ListN.{length};
 ghost use Rattle.model.specs.Limits as limit;
@@ -16,7 +12,7 @@ ghost use mathlib.Core.Option.{none, some};
 ghost use Rattle.model.specs.Verdicts.{Checked, PeakAnswer};
 ghost use Rattle.model.specs.Scheduling.{ListAnswer};
 ghost use Rattle.model.specs.Listing.{ListerAnswer};
-ghost use Rattle.pedal.specs.Face.{HandsOn, filledOf, PartSaid, plannedOf, judgedOf, givenOf, peakedOf, MoveSaid};
+ghost use Rattle.pedal.specs.Face.{HandsOn, filledOf, PartSaid, scheduledOf, verdictOf, listedOf, peaksOf, AdvanceSaid};
 
 // The answer of a question that fills a row.
 #[repr(C)]
@@ -124,23 +120,23 @@ pub extern "C" fn pedal_view(
 
 // The list schedule's answer.
 #[repr(C)]
-pub struct Planned {
+pub struct Scheduled {
     pub refusal: usize,
     pub place: usize,
     pub latency: usize,
 }
 
 // The list schedule's answer as numbers.
-fn as_planned(answer: Scheduled) -> Planned
-    ensures { λ r. ⌜ r ≡ plannedOf answer ⌝ }
+fn as_scheduled(answer: model::Scheduled) -> Scheduled
+    ensures { λ r. ⌜ r ≡ scheduledOf answer ⌝ }
 {
     match answer {
-        Scheduled::Latency(latency) => Planned {
+        model::Scheduled::Latency(latency) => Scheduled {
             refusal: 0,
             place: 0,
             latency,
         },
-        Scheduled::Refused(why) => Planned {
+        model::Scheduled::Refused(why) => Scheduled {
             refusal: why.number(),
             place: why.place(),
             latency: 0,
@@ -158,15 +154,15 @@ pub extern "C" fn pedal_list(
     to: &[u16],
     units: &[u8],
     out: &mut [u16],
-) -> Planned
-    ensures { λ r. ⌜ HandsOn (λ a. ListAnswer (lent (now (delays .entry)) (now (types .entry)) kinds (now (from .entry)) (now (to .entry))) (now (units .entry)) (now (out .entry)) a (now (out .exit))) plannedOf r ⌝ }
+) -> Scheduled
+    ensures { λ r. ⌜ HandsOn (λ a. ListAnswer (lent (now (delays .entry)) (now (types .entry)) kinds (now (from .entry)) (now (to .entry))) (now (units .entry)) (now (out .entry)) a (now (out .exit))) scheduledOf r ⌝ }
 {
-    as_planned(rule::list_schedule(delays, types, kinds, from, to, units, out))
+    as_scheduled(list_schedule::list_schedule(delays, types, kinds, from, to, units, out))
 }
 
 // The checker's verdict: 0 lawful, 1 untimely, 2 broken, 3 over-use, with its operation, edge, or step and type.
 #[repr(C)]
-pub struct Judged {
+pub struct Verdict {
     pub refusal: usize,
     pub place: usize,
     pub finding: usize,
@@ -175,40 +171,40 @@ pub struct Judged {
 }
 
 // The checker's verdict as numbers.
-fn as_judged(verdict: Verdict) -> Judged
-    ensures { λ r. ⌜ r ≡ judgedOf (verdict .finding) ⌝ }
+fn as_verdict(verdict: model::Verdict) -> Verdict
+    ensures { λ r. ⌜ r ≡ verdictOf (verdict .finding) ⌝ }
 {
     let finding = verdict.finding;
     match finding {
-        Finding::Lawful => Judged {
+        Finding::Lawful => Verdict {
             refusal: 0,
             place: 0,
             finding: 0,
             first: 0,
             second: 0,
         },
-        Finding::Untimely(operation) => Judged {
+        Finding::Untimely(operation) => Verdict {
             refusal: 0,
             place: 0,
             finding: 1,
             first: operation,
             second: 0,
         },
-        Finding::Broken(edge) => Judged {
+        Finding::Broken(edge) => Verdict {
             refusal: 0,
             place: 0,
             finding: 2,
             first: edge,
             second: 0,
         },
-        Finding::OverUse(step, kind) => Judged {
+        Finding::OverUse(step, kind) => Verdict {
             refusal: 0,
             place: 0,
             finding: 3,
             first: step,
             second: kind,
         },
-        Finding::Refused(why) => Judged {
+        Finding::Refused(why) => Verdict {
             refusal: why.number(),
             place: why.place(),
             finding: 0,
@@ -229,36 +225,36 @@ pub extern "C" fn pedal_check(
     units: &[u8],
     bound: usize,
     starts: &[u16],
-) -> Judged
-    ensures { λ r. ⌜ HandsOn (Checked (lent (now (delays .entry)) (now (types .entry)) kinds (now (from .entry)) (now (to .entry))) (now (units .entry)) bound (now (starts .entry))) (λ v. judgedOf (v .finding)) r ⌝ }
+) -> Verdict
+    ensures { λ r. ⌜ HandsOn (Checked (lent (now (delays .entry)) (now (types .entry)) kinds (now (from .entry)) (now (to .entry))) (now (units .entry)) bound (now (starts .entry))) (λ v. verdictOf (v .finding)) r ⌝ }
 {
-    as_judged(units::check(delays, types, kinds, from, to, units, bound, starts))
+    as_verdict(checker::check(delays, types, kinds, from, to, units, bound, starts))
 }
 
 // The lister's answer: found is 1 where a schedule was written.
 #[repr(C)]
-pub struct Given {
+pub struct Listed {
     pub refusal: usize,
     pub place: usize,
     pub found: usize,
 }
 
 // The lister's answer as numbers.
-fn as_given(answer: Listed) -> Given
-    ensures { λ r. ⌜ r ≡ givenOf answer ⌝ }
+fn as_listed(answer: model::Listed) -> Listed
+    ensures { λ r. ⌜ r ≡ listedOf answer ⌝ }
 {
     match answer {
-        Listed::Found => Given {
+        model::Listed::Found => Listed {
             refusal: 0,
             place: 0,
             found: 1,
         },
-        Listed::NoneLeft => Given {
+        model::Listed::NoneLeft => Listed {
             refusal: 0,
             place: 0,
             found: 0,
         },
-        Listed::Refused(why) => Given {
+        model::Listed::Refused(why) => Listed {
             refusal: why.number(),
             place: why.place(),
             found: 0,
@@ -277,10 +273,10 @@ pub extern "C" fn pedal_first(
     units: &[u8],
     bound: usize,
     out: &mut [u16],
-) -> Given
-    ensures { λ r. ⌜ HandsOn (λ a. ListerAnswer (lent (now (delays .entry)) (now (types .entry)) kinds (now (from .entry)) (now (to .entry))) (now (units .entry)) bound none (now (out .entry)) a (now (out .exit))) givenOf r ⌝ }
+) -> Listed
+    ensures { λ r. ⌜ HandsOn (λ a. ListerAnswer (lent (now (delays .entry)) (now (types .entry)) kinds (now (from .entry)) (now (to .entry))) (now (units .entry)) bound none (now (out .entry)) a (now (out .exit))) listedOf r ⌝ }
 {
-    as_given(lister::first(delays, types, kinds, from, to, units, bound, out))
+    as_listed(lister::first(delays, types, kinds, from, to, units, bound, out))
 }
 
 // The least lawful schedule after a row.
@@ -295,15 +291,15 @@ pub extern "C" fn pedal_next(
     bound: usize,
     after: &[u16],
     out: &mut [u16],
-) -> Given
-    ensures { λ r. ⌜ HandsOn (λ a. ListerAnswer (lent (now (delays .entry)) (now (types .entry)) kinds (now (from .entry)) (now (to .entry))) (now (units .entry)) bound (some (now (after .entry))) (now (out .entry)) a (now (out .exit))) givenOf r ⌝ }
+) -> Listed
+    ensures { λ r. ⌜ HandsOn (λ a. ListerAnswer (lent (now (delays .entry)) (now (types .entry)) kinds (now (from .entry)) (now (to .entry))) (now (units .entry)) bound (some (now (after .entry))) (now (out .entry)) a (now (out .exit))) listedOf r ⌝ }
 {
-    as_given(lister::next(delays, types, kinds, from, to, units, bound, after, out))
+    as_listed(lister::next(delays, types, kinds, from, to, units, bound, after, out))
 }
 
 // Peak use: for each type the most operations running at any one step.
 #[repr(C)]
-pub struct Peaked {
+pub struct Peaks {
     pub refusal: usize,
     pub place: usize,
     pub peak0: usize,
@@ -313,13 +309,13 @@ pub struct Peaked {
 }
 
 // Peak use as numbers.
-fn as_peaked(found: Peaks) -> Peaked
-    ensures { λ r. ⌜ r ≡ peakedOf found ⌝ }
+fn as_peaks(found: model::Peaks) -> Peaks
+    ensures { λ r. ⌜ r ≡ peaksOf found ⌝ }
 {
     let answer = found.answer;
     let counts = found.counts;
     let said = as_filled(answer);
-    Peaked {
+    Peaks {
         refusal: said.refusal,
         place: said.place,
         peak0: counts[0],
@@ -338,15 +334,15 @@ pub extern "C" fn pedal_peak(
     from: &[u16],
     to: &[u16],
     starts: &[u16],
-) -> Peaked
-    ensures { λ r. ⌜ HandsOn (PeakAnswer (lent (now (delays .entry)) (now (types .entry)) kinds (now (from .entry)) (now (to .entry))) (now (starts .entry))) peakedOf r ⌝ }
+) -> Peaks
+    ensures { λ r. ⌜ HandsOn (PeakAnswer (lent (now (delays .entry)) (now (types .entry)) kinds (now (from .entry)) (now (to .entry))) (now (starts .entry))) peaksOf r ⌝ }
 {
-    as_peaked(peak::peak_use(delays, types, kinds, from, to, starts))
+    as_peaks(peak_use::peak_use(delays, types, kinds, from, to, starts))
 }
 
 // The advance's answer, and the step that the state now has.
 #[repr(C)]
-pub struct Moved {
+pub struct Advanced {
     pub refusal: usize,
     pub place: usize,
     pub step: usize,
@@ -377,12 +373,12 @@ pub extern "C" fn pedal_advance(
     units: &[u8],
     step: usize,
     starts: &mut [u16],
-) -> Moved
-    ensures { λ r. ⌜ MoveSaid (lent (now (delays .entry)) (now (types .entry)) kinds (now (from .entry)) (now (to .entry))) (now (units .entry)) (now (starts .entry)) step r (now (starts .exit)) ⌝ }
+) -> Advanced
+    ensures { λ r. ⌜ AdvanceSaid (lent (now (delays .entry)) (now (types .entry)) kinds (now (from .entry)) (now (to .entry))) (now (units .entry)) (now (starts .entry)) step r (now (starts .exit)) ⌝ }
 {
     if starts.len() != OPERATIONS {
-        let wrong = as_filled(graph::graph_fault(delays, types, kinds, from, to, false));
-        return Moved {
+        let wrong = as_filled(admission::graph::graph_fault(delays, types, kinds, from, to, false));
+        return Advanced {
             refusal: wrong.refusal,
             place: wrong.place,
             step,
@@ -395,10 +391,10 @@ pub extern "C" fn pedal_advance(
     let after = state.advance(delays, types, kinds, from, to, units);
     let next = after.state;
     let row = next.starts;
-    graph::fill(&row, OPERATIONS, starts);
+    admission::graph::fill(&row, OPERATIONS, starts);
     let answer = after.answer;
     let said = as_filled(answer);
-    Moved {
+    Advanced {
         refusal: said.refusal,
         place: said.place,
         step: next.step,

@@ -10,7 +10,7 @@ use Rattle.model.specs.Limits as limit
 use Rattle.model.specs.Graph.{Graph, order, many, Sound}
 use Rattle.model.specs.Tables.{Latency}
 use Rattle.theory.specs.tables.LatestTurned.{latency-within, not-late}
-use Rattle.model.specs.Refusals.{Rule, First, shape, output, cyclic, large-bound, late-bound, asapChecks, alapChecks}
+use Rattle.model.specs.Refusals.{Check, First, shape, output, cyclic, large-bound, late-bound, asapChecks, alapChecks}
 use Rattle.theory.specs.refusals.FirstRefusal.{first-none-append, first-pass, first-hit, first-says, first-silent, first-end, flat-says, flat-silent, Never, never-append, front-never}
 use Rattle.theory.specs.refusals.SoundGraph.{shape-own-then, room-enough, sound, closed}
 use Rattle.model.specs.Answers.{refusalOf, numbered, Answered}
@@ -21,15 +21,15 @@ use Rattle.model.specs.declared.Answer.{Answer}
 use Rattle.model.specs.declared.Answer.the-variants.{Done, Refused}
 use Rattle.model.specs.declared.Refusal.{Refusal}
 use Rattle.model.specs.declared.Refusal.the-variants.{BoundTooLarge, BoundTooSmall}
-use Rattle.precedence.specs.Tried.{Tried}
-use Rattle.tables.specs.Begun.{Begun, Bounded}
+use Rattle.admission.specs.OrderAdmitted.{OrderAdmitted}
+use Rattle.tables.specs.Admitted.{Admitted, AdmittedWithin}
 
 -- the tables' first five rules
-abbrev front : Graph → List ℕ → List Rule
+abbrev front : Graph → List ℕ → List Check
 front g before = shape g ⊥ ++ output g (length before)
 
 -- the bound's two rules
-abbrev back : Graph → ℕ → List Rule
+abbrev back : Graph → ℕ → List Check
 back g bound = large-bound bound ++ late-bound (order g) bound
 
 module _ (g : Graph) (before : List ℕ) where
@@ -38,8 +38,8 @@ module _ (g : Graph) (before : List ℕ) where
   bare x h = shape-own-then g (true ≡ false) ⊥ true≢false (λ e. absurd e) (output g (length before)) x h
 
   module _ (a : Answer) (h : First (shape g (true ≡ false) ++ output g (length before)) (refusalOf a)) where
-    pub begun-refused : {why : Refusal} (s : List ℕ) → a ≡ Refused why → Begun g before (Refused why) s before
-    begun-refused {why} s e =
+    pub admitted-refused : {why : Refusal} (s : List ℕ) → a ≡ Refused why → Admitted g before (Refused why) s before
+    admitted-refused {why} s e =
         let first = bare (some (numbered why)) (first-told _ e h) in
         record {
           answered = answered-refused (order g) (front g before) (cyclic (order g)) before (λ r. r ≡ before) (λ r. r ≡ before) (numbered why) before
@@ -53,29 +53,29 @@ module _ (g : Graph) (before : List ℕ) where
     passed : a ≡ Done → First (front g before) none
     passed e = bare none (first-told _ e h)
 
-    pub begun-sound : a ≡ Done → Sound g
-    begun-sound e = sound g ⊥ (first-none-append (shape g ⊥) (output g (length before)) (passed e) .0)
+    pub admitted-sound : a ≡ Done → Sound g
+    admitted-sound e = sound g ⊥ (first-none-append (shape g ⊥) (output g (length before)) (passed e) .0)
 
-    pub begun-room : a ≡ Done → many g ≤ length before
-    begun-room e = room-enough g (length before) (first-none-append (shape g ⊥) (output g (length before)) (passed e) .1)
+    pub admitted-room : a ≡ Done → many g ≤ length before
+    admitted-room e = room-enough g (length before) (first-none-append (shape g ⊥) (output g (length before)) (passed e) .1)
 
-    pub begun-placed : {r : Answer} {s after : List ℕ} → a ≡ Done → Tried (order g) before r s after → Begun g before r s after
-    begun-placed {r} {s} {after} e t = record {
+    pub admitted-placed : {r : Answer} {s after : List ℕ} → a ≡ Done → OrderAdmitted (order g) before r s after → Admitted g before r s after
+    admitted-placed {r} {s} {after} e t = record {
       answered = answered-passed (order g) (front g before) (cyclic (order g)) before (λ r. r ≡ before) (refusalOf r) after (passed e) (t .answered);
-      sound = λ p. begun-sound e;
-      room = λ p. begun-room e;
+      sound = λ p. admitted-sound e;
+      room = λ p. admitted-room e;
       long = λ p. t .placing .long;
       earliest = t .earliest;
     }
 
 -- the rest of what a refusal leaves
-module _ {g : Graph} (bound : ℕ) {before s after : List ℕ} {a : Answer} (h : Begun g before a s after) where
+module _ {g : Graph} (bound : ℕ) {before s after : List ℕ} {a : Answer} (h : Admitted g before a s after) where
   back-never : Never 7 (back g bound)
   back-never =
       never-append 7 (large-bound bound) (late-bound (order g) bound) (large-bound-never bound 7 (omega arith)) (late-bound-never (order g) bound 7 (omega arith))
 
   refused : (why : Refusal) → Answered (order g) (alapChecks g bound (length before)) before (λ r. r ≡ before) (some (numbered why)) after
-      → Bounded g bound before (Refused why) s after
+      → AdmittedWithin g bound before (Refused why) s after
   refused why x = record {
     answered = x;
     sound = refused-passes why;
@@ -86,10 +86,10 @@ module _ {g : Graph} (bound : ℕ) {before s after : List ℕ} {a : Answer} (h :
     within = refused-passes why;
   }
 
-  told : {b : Answer} → a ≡ b → Begun g before b s after
-  told e = subst (λ (x : Answer). Begun g before x s after) e h
+  told : {b : Answer} → a ≡ b → Admitted g before b s after
+  told e = subst (λ (x : Answer). Admitted g before x s after) e h
 
-  pub bounded-refused : {why : Refusal} → a ≡ Refused why → Bounded g bound before (Refused why) s after
+  pub bounded-refused : {why : Refusal} → a ≡ Refused why → AdmittedWithin g bound before (Refused why) s after
   bounded-refused {why} e =
       refused why
       (answered-refused (order g) (asapChecks g (length before)) (back g bound) before (λ r. r ≡ before) (λ r. r ≡ before) (numbered why) after (told e .answered))
@@ -103,7 +103,7 @@ module _ {g : Graph} (bound : ℕ) {before s after : List ℕ} {a : Answer} (h :
         → Answered (order g) (alapChecks g bound (length before)) before (λ r. r ≡ before) x after
     decided x k = answered-passed (order g) (asapChecks g (length before)) (back g bound) before (λ r. r ≡ before) x after (told e .answered .first) k
 
-    late : (why : Refusal) → First (back g bound) (some (numbered why)) → Bounded g bound before (Refused why) s after
+    late : (why : Refusal) → First (back g bound) (some (numbered why)) → AdmittedWithin g bound before (Refused why) s after
     late why f =
         refused why
         (decided (some (numbered why)) (refused-stays (order g) (back g bound) before (λ r. r ≡ before) (numbered why) after back-never f kept))
@@ -111,19 +111,19 @@ module _ {g : Graph} (bound : ℕ) {before s after : List ℕ} {a : Answer} (h :
     low-enough : bound ≤ limit.steps → First (large-bound bound) none
     low-enough l = first-silent _ _ none (flat-silent 8 _ (λ b. absurd (omega arith))) first-end
 
-    pub bounded-large : limit.steps < bound → Bounded g bound before (Refused BoundTooLarge) s after
-    bounded-large l = late BoundTooLarge (first-hit (large-bound bound) _ _ (first-says _ _ 8 0 (flat-says 8 _ l)))
+    pub admitted-within-large : limit.steps < bound → AdmittedWithin g bound before (Refused BoundTooLarge) s after
+    admitted-within-large l = late BoundTooLarge (first-hit (large-bound bound) _ _ (first-says _ _ 8 0 (flat-says 8 _ l)))
 
     module _ {l : ℕ} (low : bound ≤ limit.steps) (ends : Latency (order g) s l) where
-      pub bounded-late : bound < l → Bounded g bound before (Refused BoundTooSmall) s after
-      bounded-late b =
+      pub admitted-within-late : bound < l → AdmittedWithin g bound before (Refused BoundTooSmall) s after
+      admitted-within-late b =
           late BoundTooSmall
           (first-pass (large-bound bound) (late-bound (order g) bound) _ (low-enough low)
           (first-says _ _ 9 0
           (flat-says 9 _ (record { asap = s; latency = l; earliest = told e .earliest refl; ends = ends; below = b }))))
 
-      pub bounded-done : l ≤ bound → Bounded g bound before Done s after
-      bounded-done up = record {
+      pub admitted-within-done : l ≤ bound → AdmittedWithin g bound before Done s after
+      admitted-within-done up = record {
         answered = decided none
             (record {
               first = first-pass (large-bound bound) (late-bound (order g) bound) none (low-enough low)

@@ -5,22 +5,22 @@ use mathlib.Core.List.{List}
 use Prim.Native.Nat.{ℕ, _≤_, _<_}
 use native.Mathlib.Omega.{arith}
 use lib.ListN.{length, take}
-use Rattle.laws.specs.Rows.{at, over, take-at, take-long}
+use Rattle.maths.specs.Rows.{at, over, take-at, take-long}
 use Rattle.model.specs.Limits as limit
 use Rattle.model.specs.Order.{Order, Closed}
 use Rattle.model.specs.Graph.{Graph, order, many, Sound}
 use Rattle.model.specs.Tables.{Earliest, Latest, Asap, Alap, Mobility}
 use Rattle.theory.specs.tables.KeepingStarts.{earliest-same, latest-same}
 use Rattle.theory.specs.tables.LatestTurned.{asap-alap}
-use Rattle.model.specs.Refusals.{Rule, asapChecks, alapChecks}
+use Rattle.model.specs.Refusals.{Check, asapChecks, alapChecks}
 use Rattle.theory.specs.refusals.SoundGraph.{closed}
 use Rattle.model.specs.Answers.{numbered, Answered, Fills, AsapAnswer, AlapAnswer, MobilityAnswer}
 use Rattle.theory.specs.refusals.RowAfterwards.{answered-again, row-is, row-given}
 use Rattle.model.specs.declared.Answer.{Answer}
 use Rattle.model.specs.declared.Answer.the-variants.{Done, Refused}
 use Rattle.model.specs.declared.Refusal.{Refusal}
-use Rattle.rows.specs.Rows.{Under, Differences}
-use Rattle.tables.specs.Begun.{Begun, Bounded, Room, LatestRow}
+use Rattle.latency.specs.LaterAndDifferences.{Under, Differences}
+use Rattle.tables.specs.Admitted.{Admitted, AdmittedWithin, RoomWithin, LatestRow}
 
 -- the first n entries of a row with n or more
 module _ (g : Graph) (good : Sound g) (s : List ℕ) (long : length s ≡ limit.operations) where
@@ -43,7 +43,7 @@ module _ (g : Graph) (good : Sound g) (s : List ℕ) (long : length s ≡ limit.
   }
 
 -- where the checks passed and left the row, a row with `Is` is written over it
-filled : (o : Order) (checks : List Rule) (before mid after : List ℕ) (Is : List ℕ → Type 0) (row : List ℕ)
+filled : (o : Order) (checks : List Check) (before mid after : List ℕ) (Is : List ℕ → Type 0) (row : List ℕ)
     → Answered o checks before (λ r. r ≡ before) none mid → after ≡ over row mid → Is row → Answered o checks before (Fills Is before) none after
 filled o checks before mid after Is row h e is = record {
   first = h .first;
@@ -51,9 +51,9 @@ filled o checks before mid after Is row h e is = record {
       (record { row = row; is = is; written = e ∙ ap (λ (r : List ℕ). over row r) (row-is o before (λ r. r ≡ before) mid (h .row)) });
 }
 
-module _ {g : Graph} {before s mid : List ℕ} {a : Answer} (h : Begun g before a s mid) where
-  told : {b : Answer} → a ≡ b → Begun g before b s mid
-  told e = subst (λ (x : Answer). Begun g before x s mid) e h
+module _ {g : Graph} {before s mid : List ℕ} {a : Answer} (h : Admitted g before a s mid) where
+  told : {b : Answer} → a ≡ b → Admitted g before b s mid
+  told e = subst (λ (x : Answer). Admitted g before x s mid) e h
 
   -- the output has room for as many entries as there are operations
   pub fill-fits : a ≡ Done → (many g ≤ limit.operations) × (many g ≤ length mid)
@@ -75,9 +75,9 @@ module _ {g : Graph} {before s mid : List ℕ} {a : Answer} (h : Begun g before 
       filled (order g) (asapChecks g (length before)) before mid after (Asap g) (take (many g) s) (x .answered) w
       (asap-front g (x .sound refl) s (x .long refl) (x .earliest refl))
 
-module _ {g : Graph} {bound : ℕ} {before s mid : List ℕ} {a : Answer} (h : Bounded g bound before a s mid) where
-  told-within : {b : Answer} → a ≡ b → Bounded g bound before b s mid
-  told-within e = subst (λ (x : Answer). Bounded g bound before x s mid) e h
+module _ {g : Graph} {bound : ℕ} {before s mid : List ℕ} {a : Answer} (h : AdmittedWithin g bound before a s mid) where
+  told-within : {b : Answer} → a ≡ b → AdmittedWithin g bound before b s mid
+  told-within e = subst (λ (x : Answer). AdmittedWithin g bound before x s mid) e h
 
   pub bounded-again : (Given : List ℕ → Type 0) {why : Refusal} → a ≡ Refused why
       → Answered (order g) (alapChecks g bound (length before)) before Given (some (numbered why)) mid
@@ -85,14 +85,14 @@ module _ {g : Graph} {bound : ℕ} {before s mid : List ℕ} {a : Answer} (h : B
       answered-again (order g) (alapChecks g bound (length before)) before (λ r. r ≡ before) Given (numbered why) mid (told-within e .answered)
 
   module _ (e : a ≡ Done) where
-    passed : Bounded g bound before Done s mid
+    passed : AdmittedWithin g bound before Done s mid
     passed = told-within e
 
     good : Sound g
     good = passed .sound refl
 
     -- what `latest` asks: a closed order, a low bound, and starts within it
-    pub latest-fits : Closed (order g) × ((bound ≤ limit.steps) × Room (order g) bound)
+    pub latest-fits : Closed (order g) × ((bound ≤ limit.steps) × RoomWithin (order g) bound)
     latest-fits =
         (closed g good, (passed .low refl, record { row = s; keeps = passed .earliest refl .keeps; within = passed .within refl }))
 

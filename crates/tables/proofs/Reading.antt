@@ -6,8 +6,8 @@ use Prim.Native.Nat.{ℕ, _+_, _-_, _≤_, _<_}
 use native.Mathlib.Omega.{arith}
 use lib.ListN.{length, set, replicate, length-set, length-replicate}
 use lib.Seq.{getD-set-same, getD-set-other}
-use Rattle.laws.specs.Cases.{same-or-not}
-use Rattle.laws.specs.Rows.{at, blank}
+use Rattle.maths.specs.Cases.{same-or-not}
+use Rattle.maths.specs.Rows.{at, blank}
 use Rattle.model.specs.Limits as limit
 use Rattle.model.specs.Order.{Order, turned, size, weight, Closed}
 use Rattle.model.specs.Placing.{Placing}
@@ -16,7 +16,7 @@ use Rattle.theory.specs.refusals.SoundGraph.{closed-turned}
 use Rattle.theory.specs.order.PlacingOutcome.{placing-done, placing-cyclic}
 use Rattle.theory.specs.tables.LatestTurned.{latest-turned, mirror, mirror-at, mirror-keeps}
 use Rattle.theory.specs.tables.KeepingStarts.{keeps-acyclic}
-use Rattle.tables.specs.Begun.{Room, LatestRow}
+use Rattle.tables.specs.Admitted.{RoomWithin, LatestRow}
 
 -- what a start within the bound is made of, from the start turned round
 abbrev pub read : Order → ℕ → List ℕ → ℕ → ℕ
@@ -53,7 +53,7 @@ module _ {o : Order} {bound : ℕ} {u : List ℕ} where
       }
 
 -- the order turned round has no cycle where some starts keep the order: so all of it is placed
-module _ {o : Order} {bound placed : ℕ} {u : List ℕ} (c : Closed o) (room : Room o bound) (p : Placing (turned o) u placed) where
+module _ {o : Order} {bound placed : ℕ} {u : List ℕ} (c : Closed o) (room : RoomWithin o bound) (p : Placing (turned o) u placed) where
   backwards : Keeps (turned o) (mirror o bound (room .row))
   backwards = mirror-keeps o c bound (room .row) (room .keeps) (room .within)
 

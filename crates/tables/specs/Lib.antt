@@ -1,2 +1,2 @@
-pub mod Begun
-pub mod One
+pub mod Admitted
+pub mod OneAnswer

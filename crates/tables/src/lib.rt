@@ -9,7 +9,7 @@ ghost use Rattle.model.specs.Limits as limit;
 ghost use Rattle.model.specs.Order.{ordered, Closed};
 ghost use Rattle.model.specs.Graph.{lent};
 ghost use Rattle.model.specs.Answers.{AsapAnswer, AlapAnswer, MobilityAnswer};
-ghost use Rattle.tables.specs.Begun.{Begun, Bounded, Room, LatestRow};
+ghost use Rattle.tables.specs.Admitted.{Admitted, AdmittedWithin, RoomWithin, LatestRow};
 
 // Refusals 1 to 5 and 7, and the earliest starts. A cycle is shown in `out`; any other refusal leaves it, and so does a pass.
 fn begin(
@@ -21,12 +21,12 @@ fn begin(
     starts: &mut [u16; OPERATIONS],
     out: &mut [u16],
 ) -> Answer
-    ensures { λ r. ⌜ Begun (lent (now (delays .entry)) (now (types .entry)) kinds (now (from .entry)) (now (to .entry))) (now (out .entry)) r (now (starts .exit)) (now (out .exit)) ⌝ }
+    ensures { λ r. ⌜ Admitted (lent (now (delays .entry)) (now (types .entry)) kinds (now (from .entry)) (now (to .entry))) (now (out .entry)) r (now (starts .exit)) (now (out .exit)) ⌝ }
 {
-    let fault = graph::front(delays, types, kinds, from, to, true, out.len());
+    let fault = admission::graph::front(delays, types, kinds, from, to, true, out.len());
     match fault {
         Answer::Refused(why) => Answer::Refused(why),
-        Answer::Done => precedence::place(delays, from, to, starts, out),
+        Answer::Done => admission::precedence::place(delays, from, to, starts, out),
     }
 }
 
@@ -41,7 +41,7 @@ fn begin_within(
     starts: &mut [u16; OPERATIONS],
     out: &mut [u16],
 ) -> Answer
-    ensures { λ r. ⌜ Bounded (lent (now (delays .entry)) (now (types .entry)) kinds (now (from .entry)) (now (to .entry))) bound (now (out .entry)) r (now (starts .exit)) (now (out .exit)) ⌝ }
+    ensures { λ r. ⌜ AdmittedWithin (lent (now (delays .entry)) (now (types .entry)) kinds (now (from .entry)) (now (to .entry))) bound (now (out .entry)) r (now (starts .exit)) (now (out .exit)) ⌝ }
 {
     let begun = begin(delays, types, kinds, from, to, starts, out);
     match begun {
@@ -50,7 +50,7 @@ fn begin_within(
             if STEPS < bound {
                 return Answer::Refused(Refusal::BoundTooLarge);
             }
-            if bound < rows::latency(delays, starts) {
+            if bound < latency::latency(delays, starts) {
                 return Answer::Refused(Refusal::BoundTooSmall);
             }
             Answer::Done
@@ -62,7 +62,7 @@ fn begin_within(
 pub fn latest(delays: &[u8], from: &[u16], to: &[u16], bound: usize) -> [u16; OPERATIONS]
     requires { ⌜ Closed (ordered (now delays) (now from) (now to)) ⌝ }
     requires { ⌜ bound ≤ limit.steps ⌝ }
-    requires { ⌜ Room (ordered (now delays) (now from) (now to)) bound ⌝ }
+    requires { ⌜ RoomWithin (ordered (now delays) (now from) (now to)) bound ⌝ }
     ensures { λ r. ⌜ LatestRow (ordered (now (delays .entry)) (now (from .entry)) (now (to .entry))) bound r ⌝ }
 {
     let mut turned = [0u16; OPERATIONS];
@@ -92,7 +92,7 @@ pub fn asap(
     match begun {
         Answer::Refused(why) => Answer::Refused(why),
         Answer::Done => {
-            graph::fill(&starts, delays.len(), out);
+            admission::graph::fill(&starts, delays.len(), out);
             Answer::Done
         }
     }
@@ -116,7 +116,7 @@ pub fn alap(
         Answer::Refused(why) => Answer::Refused(why),
         Answer::Done => {
             let late = latest(delays, from, to, bound);
-            graph::fill(&late, delays.len(), out);
+            admission::graph::fill(&late, delays.len(), out);
             Answer::Done
         }
     }
@@ -140,8 +140,8 @@ pub fn mobility(
         Answer::Refused(why) => Answer::Refused(why),
         Answer::Done => {
             let late = latest(delays, from, to, bound);
-            let spread = rows::differences(&late, &starts, delays.len());
-            graph::fill(&spread, delays.len(), out);
+            let spread = latency::differences(&late, &starts, delays.len());
+            admission::graph::fill(&spread, delays.len(), out);
             Answer::Done
         }
     }

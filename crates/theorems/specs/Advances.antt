@@ -13,7 +13,7 @@ use Rattle.model.specs.Limits as limit
 use Rattle.model.specs.Refusals.{First, Flat, shape, unitless, cyclic}
 use Rattle.model.specs.Scheduling.{Outside, advanceChecks, StateAfter, AdvanceAnswer}
 use Rattle.theory.specs.order.PlacingOutcome.{placing-exists}
-use Rattle.theory.specs.list.LabelValues.{Ones, labels-placed, ones-closed, labels-one}
+use Rattle.theory.specs.list.LabelValues.{AllOne, labels-placed, ones-closed, labels-one}
 use Rattle.theory.specs.list.Progress.{Doable}
 use Rattle.theory.specs.list.OneListSchedule.{all-placed, stepped-same, stable, after-stable}
 use Rattle.theory.specs.refusals.FirstRefusal.{first-pass, first-silent, first-end, flat-silent}
@@ -31,12 +31,12 @@ pub record LabelRow (g : Graph) : Type 0 where
 pub labels-exist : (g : Graph) → Closed (order g) → (Cyclic (order g) → ⊥) → LabelRow g
 labels-exist g c free =
     let n = many g in
-    let ones : Ones n (replicate n 1) = record { long = length-replicate {A = ℕ} n 1; each = λ i l. getD-replicate n i 1 0 l } in
+    let ones : AllOne n (replicate n 1) = record { long = length-replicate {A = ℕ} n 1; each = λ i l. getD-replicate n i 1 0 l } in
     let p = placing-exists (ones-closed g c (replicate n 1) ones) in
     record { row = p .row; are = labels-placed g c (replicate n 1) ones free (p .row) (p .number) (p .is) }
 
 module _ (g : Graph) (labels units : List ℕ) (can : Doable g units) where
-  -- and these give the list schedule
+  -- as many advances of the rule as there are steps give the list schedule
   pub list-starts : Labels g labels → ListStarts g units (take (many g) (after g labels units limit.steps))
   list-starts are = record { labels = labels; are-labels = are; rounds = limit.steps; all = all-placed g labels units can; is = refl }
 

@@ -7,11 +7,11 @@ use native.Mathlib.Omega.{arith}
 use lib.ListN.{length}
 use mathlib.Core.Logic.{⊎-elim}
 use mathlib.Core.Option.{none, some}
-use Rattle.laws.specs.Cases.{Tells}
-use Rattle.laws.specs.TellLaws.{tells-as, tells-le, tells-both, tells-every, tells-true}
-use Rattle.laws.specs.Rows.{at}
-use Rattle.laws.specs.WordLaws.{Word, Among, Rising, rising-head, rising-tail, before-not-self, before-not-after, before-trans, words-in, words-all, words-rising, keep-in, keep-all, keep-rising, isBefore, is-before}
-use Rattle.laws.specs.Words.{Before, words, keep}
+use Rattle.maths.specs.Cases.{Tells}
+use Rattle.maths.specs.TellLaws.{tells-as, tells-le, tells-both, tells-every, tells-true}
+use Rattle.maths.specs.Rows.{at}
+use Rattle.maths.specs.WordLaws.{Word, Among, Rising, rising-head, rising-tail, before-not-self, before-not-after, before-trans, words-in, words-all, words-rising, keep-in, keep-all, keep-rising, isBefore, is-before}
+use Rattle.maths.specs.Words.{Before, words, keep}
 use Rattle.model.specs.Order.{source, target}
 use Rattle.model.specs.Graph.{Graph, order, many, edgesOf, delay, Sound}
 use Rattle.model.specs.Use.{running, Lawful}

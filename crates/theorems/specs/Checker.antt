@@ -5,7 +5,7 @@ use mathlib.Core.List.{List}
 use Prim.Native.Nat.{ℕ}
 use Rattle.model.specs.Graph.{Graph}
 use Rattle.model.specs.Use.{Lawful}
-use Rattle.model.specs.Verdicts.{refusalIn, Finds, Checked}
+use Rattle.model.specs.Verdicts.{refusalInFinding, Finds, Checked}
 use Rattle.model.specs.declared.Finding as finding
 use Rattle.model.specs.declared.Finding.the-variants as found
 use Rattle.model.specs.declared.Verdict.{Verdict}
@@ -19,6 +19,6 @@ module _ (g : Graph) (units : List ℕ) (bound : ℕ) (t : List ℕ) (v : Verdic
   says-lawful e = subst (Finds g units bound t) e (c .finds)
 
   -- unless it refuses
-  pub lawful-found : refusalIn (v .finding) ≡ none → (v .finding ≡ found.Lawful → Lawful g units bound t) × (Lawful g units bound t → v .finding ≡ found.Lawful)
+  pub lawful-found : refusalInFinding (v .finding) ≡ none → (v .finding ≡ found.Lawful → Lawful g units bound t) × (Lawful g units bound t → v .finding ≡ found.Lawful)
   unfolding Finds
   lawful-found asked = (says-lawful, λ h. finds-one g units bound t (v .finding) found.Lawful asked (c .finds) h)

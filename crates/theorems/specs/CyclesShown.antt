@@ -1,10 +1,10 @@
--- A cycle is shown exactly where there is one, and what is shown is a cycle: edges lead round it, its operations differ, and none is missing.
+-- A cycle is shown exactly where there is one, and what is shown is one: edges lead round it, and its entries are operations, all different.
 use mathlib.Core.Path.{_≡_, sym, ap, subst, _∙_}
 use mathlib.Core.List.{List}
 use Prim.Native.Nat.{ℕ, zero, suc, _+_, _-_, _≤_, _<_}
 use native.Mathlib.Omega.{arith}
 use lib.ListN.{length}
-use Rattle.laws.specs.Rows.{at}
+use Rattle.maths.specs.Rows.{at}
 use Rattle.model.specs.Order.{Order, size, Edge, Closed, Cyclic}
 use Rattle.model.specs.Cycle.{Shown}
 use Rattle.theory.specs.cycle.OneTrail.{back-same, trail-place, trail-inside, trail-few}

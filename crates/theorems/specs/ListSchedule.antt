@@ -5,9 +5,9 @@ use Prim.Native.Nat.{ℕ, _+_, _≤_, _<_}
 use native.Mathlib.Omega.{arith}
 use lib.ListN.{length, take}
 use borrow.Author.Tests.{lt-ltb}
-use Rattle.laws.specs.Tests.{and-true}
-use Rattle.laws.specs.Rows.{at, take-at, take-long}
-use Rattle.laws.specs.Counting.{count-mono}
+use Rattle.maths.specs.Tests.{and-true}
+use Rattle.maths.specs.Rows.{at, take-at, take-long}
+use Rattle.maths.specs.Counting.{count-mono}
 use Rattle.model.specs.Order.{source, target}
 use Rattle.model.specs.Graph.{Graph, Sound, order, many}
 use Rattle.model.specs.Tables.{Keeps, Earliest, Latency}
@@ -15,7 +15,7 @@ use Rattle.model.specs.Use.{runs, running, Lawful}
 use Rattle.model.specs.Rule.{after, ListStarts}
 use Rattle.theory.specs.list.OneStep.{uses}
 use Rattle.theory.specs.list.ReachedStates.{Reached, reached, room-always}
-use Rattle.theory.specs.list.Progress.{Doable, allDelays, finished}
+use Rattle.theory.specs.list.Progress.{Doable, allDelays, all-finished}
 use Rattle.theory.specs.list.OneListSchedule.{list-starts-one, placed-by}
 
 -- ---- it is lawful
@@ -87,7 +87,7 @@ list-sum g units t l can h ends =
       ends = λ i b.
           omega (
             arith,
-            finished g labels units can n (omega arith) i b .ended,
+            all-finished g labels units can n (omega arith) i b .ended,
             ap (λ (row : List ℕ). at row i) same,
             take-at (many g) (after g labels units n) i b,
           );

@@ -5,11 +5,11 @@ use mathlib.Core.List.{List, [], _∷_}
 use Prim.Native.Nat.{ℕ}
 use lib.ListN.{length, take, drop}
 use lib.Seq.{take-at}
-use Rattle.laws.specs.Cases.{none-some}
+use Rattle.maths.specs.Cases.{none-some}
 use Rattle.model.specs.Graph.{Graph, order, many, Sound}
 use Rattle.model.specs.Refusals.{First, output, unitless, cyclic}
 use Rattle.model.specs.Answers.{RowAfter}
-use Rattle.model.specs.Listing.{allLawful, Least, NoneLeft, ListerUneven, listerChecks, refusalIn, Gives, ListerAnswer, Asked, AskedAll}
+use Rattle.model.specs.Listing.{allLawful, Least, NoneLeft, ListerUneven, listerChecks, refusalInListed, Gives, ListerAnswer, Asked, AskedAll}
 use Rattle.model.specs.declared.Listed.{Listed}
 use Rattle.model.specs.declared.Listed.the-variants as answers
 use Rattle.theory.specs.refusals.FirstRefusal.{first-none-append}
@@ -41,7 +41,7 @@ module _ {g : Graph} {units : List ℕ} {bound : ℕ} {asked : Option (List ℕ)
   answer-left x = x .row .none
 
 -- a question that is not refused is asked of a sound graph
-pub answer-sound : (g : Graph) (units : List ℕ) (bound : ℕ) (asked : Option (List ℕ)) (out after : List ℕ) (r : Listed) → refusalIn r ≡ none
+pub answer-sound : (g : Graph) (units : List ℕ) (bound : ℕ) (asked : Option (List ℕ)) (out after : List ℕ) (r : Listed) → refusalInListed r ≡ none
     → ListerAnswer g units bound asked out r after → Sound g
 answer-sound g units bound asked out after r e x =
     let passed = subst (λ (refusal : Option (ℕ × ℕ)). First (listerChecks g units bound asked (length out)) refusal) e (x .first) in
@@ -73,7 +73,7 @@ pub record Reply (g : Graph) (units : List ℕ) (bound : ℕ) (asked : Option (L
   pub listed : Listed
   pub after : List ℕ
   pub answer : ListerAnswer g units bound asked out listed after
-  pub passes : refusalIn listed ≡ none
+  pub passes : refusalInListed listed ≡ none
 
 -- the row asked after, if one is, has n entries
 unfoldable pub Entries : ℕ → Option (List ℕ) → Type 0
@@ -90,14 +90,14 @@ module _ (g : Graph) (units : List ℕ) (bound : ℕ) (reply : (asked : Option (
 
   -- where there is a least schedule it is found
   finds : (asked : Option (List ℕ)) {u : List ℕ} {rows : List (List ℕ)} → Least g units bound asked u → Lists g units bound (some u) rows
-      → (out : List ℕ) (r : Listed) (after : List ℕ) → ListerAnswer g units bound asked out r after → refusalIn r ≡ none → Lists g units bound asked (u ∷ rows)
+      → (out : List ℕ) (r : Listed) (after : List ℕ) → ListerAnswer g units bound asked out r after → refusalInListed r ≡ none → Lists g units bound asked (u ∷ rows)
   finds asked {u} least l out answers.Found after x e = goes-as (least-one g units bound asked _ u (answer-least x) least) x l
   finds asked {u} least l out answers.NoneLeft after x e = absurd (least-left g units bound asked u least (answer-left x))
   finds asked least l out (answers.Refused why) after x e = absurd (none-some (sym e))
 
   -- and where none is left it is said
   ends : (asked : Option (List ℕ)) → NoneLeft g units bound asked
-      → (out : List ℕ) (r : Listed) (after : List ℕ) → ListerAnswer g units bound asked out r after → refusalIn r ≡ none → Lists g units bound asked []
+      → (out : List ℕ) (r : Listed) (after : List ℕ) → ListerAnswer g units bound asked out r after → refusalInListed r ≡ none → Lists g units bound asked []
   ends asked n out answers.Found after x e = absurd (least-left g units bound asked _ (answer-least x) n)
   ends asked n out answers.NoneLeft after x e = Lists.stops x
   ends asked n out (answers.Refused why) after x e = absurd (none-some (sym e))

@@ -10,11 +10,11 @@ use lib.Dec.{eqb, ltb}
 use lib.ListN.{length, set, length-set}
 use lib.Seq.{getD-set-same, getD-set-other}
 use borrow.Author.Tests.{eq-eqb, eqb-true, lt-ltb, le-ltb, ltb-true}
-use Rattle.laws.specs.Cases.{same-or-not}
-use Rattle.laws.specs.Tests.{_and_, off, and-true, and-left, and-right, and-right-false}
-use Rattle.laws.specs.Rows.{at, same-row}
-use Rattle.laws.specs.Count.{count}
-use Rattle.laws.specs.Counting.{count-mono, count-cover, count-apart, count-strict, some-or-none, least, rank, rank-lt}
+use Rattle.maths.specs.Cases.{same-or-not}
+use Rattle.maths.specs.Tests.{_and_, off, and-true, and-left, and-right, and-right-false}
+use Rattle.maths.specs.Rows.{at, same-row}
+use Rattle.maths.specs.Count.{count}
+use Rattle.maths.specs.Counting.{count-mono, count-cover, count-apart, count-strict, some-or-none, least, rank, rank-lt}
 use Rattle.model.specs.Graph.{Graph, many, busyTime, typeOf}
 use Rattle.model.specs.Rule.{placed, candidate, inUse, ahead, startsNow, stepped, Next, OneByOne, stop, start}
 use Rattle.theory.specs.list.OneStep.{uses, uses-is, is-uses, candidate-is, ahead-linear, is-starts, starts-is, starts-unplaced, stepped-long, starts-at, changed, typed, starter, is-starter, filled}
@@ -38,7 +38,7 @@ record Someone (g : Graph) (labels units t : List ℕ) (l : ℕ) (x : List ℕ) 
   next : Next g labels units t l x number
 
 -- the row where starting one after another ends
-pub record Ends (g : Graph) (labels units t : List ℕ) (l : ℕ) (x : List ℕ) : Type 0 where
+pub record OneByOneEnds (g : Graph) (labels units t : List ℕ) (l : ℕ) (x : List ℕ) : Type 0 where
   pub row : List ℕ
   pub run : OneByOne g labels units t l x row
 
@@ -96,7 +96,7 @@ module _ (g : Graph) (labels units t : List ℕ) (l : ℕ) (wide : many g ≤ le
       (off _ (λ h. omega (arith, eqb-true (at (set x i l) i) 0 h)))
       (eq-eqb (at x i) 0 z)
 
-  ends : (fuel : ℕ) (x : List ℕ) → many g ≤ length x → count (unplaced x) (many g) < fuel → Ends g labels units t l x
+  ends : (fuel : ℕ) (x : List ℕ) → many g ≤ length x → count (unplaced x) (many g) < fuel → OneByOneEnds g labels units t l x
   unfolding opens
   ends zero x room b = absurd (not-suc-le-zero b)
   ends (suc fuel) x room b =
@@ -113,7 +113,7 @@ module _ (g : Graph) (labels units t : List ℕ) (l : ℕ) (wide : many g ≤ le
       (λ none. record { row = x; run = stop (λ i n. none i (n .inside) (next-opens x i n)) })
       (some-or-none (opens x) (many g))
 
-  pub one-by-one-ends : Ends g labels units t l t
+  pub one-by-one-ends : OneByOneEnds g labels units t l t
   one-by-one-ends = ends (suc (count (unplaced t) (many g))) t wide (omega arith)
 
   -- ---- it ends at what `stepped` says

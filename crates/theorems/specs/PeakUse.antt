@@ -5,10 +5,10 @@ use mathlib.Core.List.{List}
 use Prim.Native.Nat.{ℕ, _≤_, _<_}
 use native.Mathlib.Omega.{arith}
 use lib.ListN.{length}
-use Rattle.laws.specs.Cases.{same-or-not}
-use Rattle.laws.specs.Rows.{at}
-use Rattle.laws.specs.Lowest.{None}
-use Rattle.laws.specs.Greatest.{greatest}
+use Rattle.maths.specs.Cases.{same-or-not}
+use Rattle.maths.specs.Rows.{at}
+use Rattle.maths.specs.Lowest.{None}
+use Rattle.maths.specs.Greatest.{greatest}
 use Rattle.model.specs.Graph.{Graph, order, many, typeOf}
 use Rattle.model.specs.Tables.{Keeps, Within}
 use Rattle.model.specs.Use.{running, Lawful, Peak}

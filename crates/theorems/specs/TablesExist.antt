@@ -4,8 +4,8 @@ use mathlib.Core.List.{List}
 use Prim.Native.Nat.{ℕ, _+_, _-_, _<_, _≤_}
 use native.Mathlib.Omega.{arith}
 use mathlib.Core.Logic.{⊎-elim}
-use Rattle.laws.specs.Rows.{at, tabulate, tabulate-at}
-use Rattle.laws.specs.Cases.{same-or-not}
+use Rattle.maths.specs.Rows.{at, tabulate, tabulate-at}
+use Rattle.maths.specs.Cases.{same-or-not}
 use Rattle.model.specs.Order.{Order, size, weight, turned, Closed, Cyclic}
 use Rattle.model.specs.Tables.{Latency, Earliest, Latest}
 use Rattle.theory.specs.order.Decided.{acyclic-earliest, EarliestRow}

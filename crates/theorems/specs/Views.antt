@@ -7,7 +7,7 @@ use native.Mathlib.Omega.{arith}
 use lib.ListN.{length, drop, length-drop}
 use lib.Seq.{length-take-le}
 use denote.Ref.{now, ptr}
-use Rattle.laws.specs.Cases.{same-or-not, le-or-lt}
+use Rattle.maths.specs.Cases.{same-or-not, le-or-lt}
 use Rattle.model.specs.Refusals.{First}
 use Rattle.model.specs.Views.{Table, NoChannel, chosen, viewChecks, PartOf, PartAfter, Viewed, numberOr0, ViewRefusal}
 use Rattle.theory.specs.views.OneView.{Available, Named, PastEnd, passes, refuses-channel, refuses-range, view-checks-one}

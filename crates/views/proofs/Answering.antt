@@ -6,7 +6,7 @@ use Prim.Native.Nat.{ℕ, _+_, _<_, _≤_}
 use borrow.Author.Tests.{ne-eqb}
 use lib.ListN.{length}
 use denote.Ref.{now}
-use Rattle.laws.specs.Cases.{le-or-lt}
+use Rattle.maths.specs.Cases.{le-or-lt}
 use Rattle.model.specs.Views.{Table, chosen, viewChecks, PartOf, PartAfter, Viewed, numberOr0, ViewRefusal}
 use Rattle.model.specs.Refusals.{First}
 use Rattle.theory.specs.views.OneView.{Named, passes, refuses-channel, refuses-range}

@@ -1,6 +1,6 @@
 // Views of the two channels' start tables: a part of the table asked for, in that table's own memory, and why there is none.
 ghost use Prim.Native.Nat.{_+_, _≤_};
-ghost use Rattle.laws.specs.Cases.{Tells};
+ghost use Rattle.maths.specs.Cases.{Tells};
 ghost use Rattle.model.specs.Views.{Viewed, ViewRefusal};
 ghost use Rattle.views.specs.Part.{PartIn, RangeRefusal};
 

@@ -1,8 +1,8 @@
 // Cases 3, 4 and 5: the list schedule of the eleven-operation graph, and its first advance.
 use crate::say;
+use list_schedule::State;
 use model::Answer;
 use model::Scheduled;
-use rule::State;
 
 // Writes what the list schedule answered: the latency and the row's first n entries, or the refusal.
 fn scheduled(answer: Scheduled, out: &[u16], n: usize) {
@@ -47,7 +47,7 @@ pub fn eleven() {
     let mut out = [0u16; 11];
     say::text(b"3 list: ");
     scheduled(
-        rule::list_schedule(&ones, &types, 2, &from, &to, &[2u8, 2], &mut out),
+        list_schedule::list_schedule(&ones, &types, 2, &from, &to, &[2u8, 2], &mut out),
         &out,
         11,
     );
@@ -55,13 +55,13 @@ pub fn eleven() {
     advanced(&ones, &types, &from, &to, &[2u8, 2], 11);
     say::text(b"4 list: ");
     scheduled(
-        rule::list_schedule(&longer, &types, 2, &from, &to, &[3u8, 1], &mut out),
+        list_schedule::list_schedule(&longer, &types, 2, &from, &to, &[3u8, 1], &mut out),
         &out,
         11,
     );
     say::text(b"5 list: ");
     scheduled(
-        rule::list_schedule(&ones, &one_type, 1, &from, &to, &[3u8], &mut out),
+        list_schedule::list_schedule(&ones, &one_type, 1, &from, &to, &[3u8], &mut out),
         &out,
         11,
     );

@@ -58,13 +58,13 @@ fn peak(found: Peaks) {
 pub fn checks() {
     let none = [0u16; 0];
     say::text(b"12 check 2: ");
-    verdict(units::check(&[2u8], &[0u8], 1, &none, &none, &[1u8], 2, &[1u16]));
+    verdict(checker::check(&[2u8], &[0u8], 1, &none, &none, &[1u8], 2, &[1u16]));
     say::text(b"12 check 1: ");
-    verdict(units::check(&[2u8], &[0u8], 1, &none, &none, &[1u8], 1, &[1u16]));
+    verdict(checker::check(&[2u8], &[0u8], 1, &none, &none, &[1u8], 1, &[1u16]));
     say::text(b"13 check 1 2: ");
-    verdict(units::check(&[2u8, 2], &[0u8, 0], 1, &none, &none, &[1u8], 4, &[1u16, 2]));
+    verdict(checker::check(&[2u8, 2], &[0u8, 0], 1, &none, &none, &[1u8], 4, &[1u16, 2]));
     say::text(b"13 check 1 3: ");
-    verdict(units::check(&[2u8, 2], &[0u8, 0], 1, &none, &none, &[1u8], 4, &[1u16, 3]));
+    verdict(checker::check(&[2u8, 2], &[0u8, 0], 1, &none, &none, &[1u8], 4, &[1u16, 3]));
     say::text(b"13 peak 1 2: ");
-    peak(peak::peak_use(&[2u8, 2], &[0u8, 0], 1, &none, &none, &[1u16, 2]));
+    peak(peak_use::peak_use(&[2u8, 2], &[0u8, 0], 1, &none, &none, &[1u16, 2]));
 }

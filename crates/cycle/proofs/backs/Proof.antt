@@ -4,7 +4,7 @@ use native.Mathlib.Omega.{arith}
 use borrow.Author.Needs.{needs}
 use lib.ListN.{length}
 use Rattle.model.specs.Limits as limit
-use Rattle.laws.specs.Rows.{at}
+use Rattle.maths.specs.Rows.{at}
 use native.Mathlib.Nat.{le-antisymm}
 use Rattle.theory.specs.cycle.LowestPredecessors.{Backed, backed-none, backed-step}
 use Rattle.cycle.specs.Parts.{Blank}

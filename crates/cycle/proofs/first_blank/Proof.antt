@@ -3,7 +3,7 @@ use Prim.Native.Nat.{ℕ, _-_, _≤_, _<_}
 use mathlib.Core.Path.{_≡_}
 use native.Mathlib.Omega.{arith}
 use borrow.Author.Needs.{needs}
-use Rattle.laws.specs.Rows.{at}
+use Rattle.maths.specs.Rows.{at}
 use borrow.Author.Count.{below-more}
 use Rattle.cycle.proofs.first_blank.Statement.{statement}
 use Rattle.cycle.proofs.first_blank.Tie as tie

@@ -3,12 +3,12 @@ use Prim.Native.Nat.{_-_, _≤_}
 use native.Mathlib.Omega.{arith}
 use borrow.Author.Needs.{needs}
 use native.Mathlib.Nat.{le-antisymm}
-use Rattle.theory.specs.cycle.WritingTheCycle.{Least, least-none, least-step}
+use Rattle.theory.specs.cycle.WritingTheCycle.{LeastNumber, least-none, least-step}
 use Rattle.cycle.proofs.lowest.Statement.{statement}
 use Rattle.cycle.proofs.lowest.Tie as tie
 
 abbrev Inv-loop : tie.InvT-loop
-Inv-loop met twice count best₀ k₀ best k = (k ≤ count) × Least met twice k best
+Inv-loop met twice count best₀ k₀ best k = (k ≤ count) × LeastNumber met twice k best
 
 abbrev μ-loop : tie.MeasureT-loop
 μ-loop met twice count best₀ k₀ best k = count - k

@@ -1,15 +1,15 @@
--- `earliest::earliest` meets its contract. The loop keeps `Rounds`: a part is placed and counted. What is not placed yet falls.
+-- `earliest::earliest` meets its contract. The loop keeps `RoundsSoFar`: a part is placed and counted. What is not placed yet falls.
 use Prim.Native.Nat.{_-_}
 use native.Mathlib.Omega.{arith}
 use lib.ListN.{length}
 use Rattle.model.specs.Order.{ordered}
-use Rattle.links.specs.Walking.{targets}
-use Rattle.earliest.proofs.Rounds.{Rounds, rounds-none, rounds-step, rounds-few, rounds-stuck, rounds-full}
+use Rattle.edge_links.specs.WalkedBack.{targets}
+use Rattle.earliest.proofs.Rounds.{RoundsSoFar, rounds-none, rounds-step, rounds-few, rounds-stuck, rounds-full}
 use Rattle.earliest.proofs.earliest.Statement.{statement}
 use Rattle.earliest.proofs.earliest.Tie as tie
 
 abbrev Inv-loop : tie.InvT-loop
-Inv-loop weights from to starts₀ links up₀ total₀ starts up total = Rounds (ordered weights from to) starts links total
+Inv-loop weights from to starts₀ links up₀ total₀ starts up total = RoundsSoFar (ordered weights from to) starts links total
 
 abbrev μ-loop : tie.MeasureT-loop
 μ-loop weights from to starts₀ links up₀ total₀ starts up total = length weights - total

@@ -1,18 +1,18 @@
--- `earliest::first_step` meets its contract. The loop keeps `Back`: the edges past the link are seen. The link falls.
+-- `earliest::first_step` meets its contract. The loop keeps `WalkingBack`: the edges past the link are seen. The link falls.
 use Prim.Native.Nat.{_-_}
 use mathlib.Core.Path.{sym, _∙_}
 use native.Mathlib.Omega.{arith}
 use borrow.Author.Needs.{needs}
-use Rattle.laws.specs.Rows.{at}
+use Rattle.maths.specs.Rows.{at}
 use Rattle.model.specs.Order.{ordered}
-use Rattle.links.specs.Walking.{operation-low, source-room}
-use Rattle.earliest.proofs.Back.{Back, back-none, back-inside, back-falls, back-waits, back-step, back-end}
+use Rattle.edge_links.specs.WalkedBack.{operation-low, source-room}
+use Rattle.earliest.proofs.WalkingBack.{WalkingBack, back-none, back-inside, back-falls, back-waits, back-step, back-end}
 use Rattle.earliest.proofs.Room.{start-room}
 use Rattle.earliest.proofs.first_step.Statement.{statement}
 use Rattle.earliest.proofs.first_step.Tie as tie
 
 abbrev Inv-loop : tie.InvT-loop
-Inv-loop weights from to links i starts step₀ edge₀ step edge = Back (ordered weights from to) starts i step edge
+Inv-loop weights from to links i starts step₀ edge₀ step edge = WalkingBack (ordered weights from to) starts i step edge
 
 abbrev μ-loop : tie.MeasureT-loop
 μ-loop weights from to links i starts step₀ edge₀ step edge = edge

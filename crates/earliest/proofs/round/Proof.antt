@@ -4,7 +4,7 @@ use native.Mathlib.Omega.{arith}
 use borrow.Author.Needs.{needs}
 use lib.ListN.{length}
 use Rattle.model.specs.Order.{ordered}
-use Rattle.earliest.proofs.Sweep.{known-more, turn-inside, Sweep, sweep-none, sweep-step, sweep-end, sweep-few}
+use Rattle.earliest.proofs.Sweep.{known-more, kth-inside, Sweep, sweep-none, sweep-step, sweep-end, sweep-few}
 use Rattle.earliest.proofs.round.Statement.{statement}
 use Rattle.earliest.proofs.round.Tie as tie
 
@@ -24,7 +24,7 @@ visit-requires : tie.Need-visit-requires Inv-loop μ-loop
 visit-requires c κs =
     let start = c .before .before .before .before .before .before .before in
     let here = c .before .before .before .loop in
-    let inside = turn-inside (start .args .up) (length (start .args .weights .now)) (here .k) (omega arith) in
+    let inside = kth-inside (start .args .up) (length (start .args .weights .now)) (here .k) (omega arith) in
     (known-more (start .pre) (here .inv .part), omega (arith, c .before .kth .ensures))
 
 add-placed : tie.Need-add-placed Inv-loop μ-loop

@@ -1,7 +1,7 @@
 -- `lister::earliest_starts` meets its contract: refusals 1 to 6 of `front_unit_fault`, 7 of `place`.
 use borrow.Author.Needs.{needs}
 use Rattle.theory.specs.refusals.SoundGraph.{closed}
-use Rattle.lister.proofs.Beginning.{begun-refused, begun-sound, begun-room, begun-placed}
+use Rattle.lister.proofs.Beginning.{front-admitted-refused, front-admitted-sound, front-admitted-room, front-admitted-placed}
 use Rattle.lister.proofs.earliest_starts.Statement.{statement}
 use Rattle.lister.proofs.earliest_starts.Tie as tie
 
@@ -18,19 +18,19 @@ place-requires : tie.Need-place-requires
 place-requires c κs =
     let a = c .before .before .before .before .before .before .before .before .before .before .before .args in
     let passed = c .before .before in (
-      closed _ (begun-sound _ (a .units .now) _ (a .out .now) (passed .before .before .front-unit-fault .ensures) (passed .enum-told .given .1)),
-      begun-room _ (a .units .now) _ (a .out .now) (passed .before .before .front-unit-fault .ensures) (passed .enum-told .given .1),
+      closed _ (front-admitted-sound _ (a .units .now) _ (a .out .now) (passed .before .before .front-unit-fault .ensures) (passed .enum-told .given .1)),
+      front-admitted-room _ (a .units .now) _ (a .out .now) (passed .before .before .front-unit-fault .ensures) (passed .enum-told .given .1),
     )
 
 returns : tie.Need-returns
-returns c = begun-refused _ _ _ _ (c .before .before .before .front-unit-fault .ensures) _ (c .before .fault .given .1)
+returns c = front-admitted-refused _ _ _ _ (c .before .before .before .front-unit-fault .ensures) _ (c .before .fault .given .1)
 
 same-length : tie.Need-same-length
 same-length c = c .before .before .place .kept .1 .1 .1 .1 .0
 
 returns-2 : tie.Need-returns-2
 returns-2 c =
-    begun-placed _ _ _ _ (c .before .before .before .before .before .before .before .front-unit-fault .ensures) (c .before .before .before .before .before .enum-told .given .1) (c .before .before .place .ensures)
+    front-admitted-placed _ _ _ _ (c .before .before .before .before .before .before .before .front-unit-fault .ensures) (c .before .before .before .before .before .enum-told .given .1) (c .before .before .place .ensures)
 
 pub earliest-starts-spec : {M : Type 1} → statement M
 earliest-starts-spec =

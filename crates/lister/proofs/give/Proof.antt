@@ -1,7 +1,7 @@
 -- `lister::give` meets its contract: the output is filled where something was found, and else not touched.
 use borrow.Author.Needs.{needs}
 use mathlib.Core.Path.{refl}
-use Rattle.laws.specs.Tests.{clash}
+use Rattle.maths.specs.Tests.{clash}
 use Rattle.lister.proofs.give.Statement.{statement}
 use Rattle.lister.proofs.give.Tie as tie
 

@@ -2,7 +2,7 @@
 use Prim.Native.Nat.{_-_}
 use native.Mathlib.Omega.{arith}
 use borrow.Author.Needs.{needs}
-use Rattle.laws.specs.Cases.{tells-yes, tells-no}
+use Rattle.maths.specs.Cases.{tells-yes, tells-no}
 use Rattle.lister.proofs.Product.{Multiplied, multiplied-none, multiplied-fits, multiplied-step, multiplied-above, multiplied-end}
 use Rattle.lister.proofs.too_many.Statement.{statement}
 use Rattle.lister.proofs.too_many.Tie as tie

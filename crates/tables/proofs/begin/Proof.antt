@@ -1,7 +1,7 @@
 -- `begin` meets its contract: refusals 1 to 5 of `front`, then 7 of `place`.
 use borrow.Author.Needs.{needs}
 use Rattle.theory.specs.refusals.SoundGraph.{closed}
-use Rattle.tables.proofs.Beginning.{begun-refused, begun-sound, begun-room, begun-placed}
+use Rattle.tables.proofs.Beginning.{admitted-refused, admitted-sound, admitted-room, admitted-placed}
 use Rattle.tables.proofs.begin.Statement.{statement}
 use Rattle.tables.proofs.begin.Tie as tie
 
@@ -19,16 +19,16 @@ place-requires c κs =
     let told = c .before .before .enum-told .given .1 in
     let first = c .before .before .before .before .front .ensures in
     let out = c .before .before .before .before .before .before .before .before .before .before .args .out .now in
-    (closed _ (begun-sound _ out _ first told), begun-room _ out _ first told)
+    (closed _ (admitted-sound _ out _ first told), admitted-room _ out _ first told)
 
 returns : tie.Need-returns
-returns c = begun-refused _ _ _ (c .before .before .before .front .ensures) _ (c .before .fault .given .1)
+returns c = admitted-refused _ _ _ (c .before .before .before .front .ensures) _ (c .before .fault .given .1)
 
 same-length : tie.Need-same-length
 same-length c = c .before .before .place .kept .1 .1 .1 .1 .0
 
 returns-2 : tie.Need-returns-2
-returns-2 c = begun-placed _ _ _ (c .before .before .before .before .before .before .before .front .ensures)
+returns-2 c = admitted-placed _ _ _ (c .before .before .before .before .before .before .before .front .ensures)
     (c .before .before .before .before .before .enum-told .given .1)
     (c .before .before .place .ensures)
 

@@ -1,6 +1,6 @@
 -- `begin_within` meets its contract: what `begin` refuses, then 8 by the bound alone and 9 by the latency of its starts.
 use borrow.Author.Needs.{needs}
-use Rattle.tables.proofs.Beginning.{bounded-refused, bounded-large, bounded-late, bounded-done}
+use Rattle.tables.proofs.Beginning.{bounded-refused, admitted-within-large, admitted-within-late, admitted-within-done}
 use Rattle.tables.proofs.Filling.{starts-fit}
 use Rattle.tables.proofs.begin_within.Statement.{statement}
 use Rattle.tables.proofs.begin_within.Tie as tie
@@ -18,7 +18,7 @@ same-length : tie.Need-same-length
 same-length c = c .before .before .before .before .before .begin .kept .1 .1 .1 .1 .1 .1 .0
 
 returns : tie.Need-returns
-returns c = bounded-large _ (c .before .before .before .before .before .begin .ensures) (c .before .enum-told .given .1) (c .if1 .taken)
+returns c = admitted-within-large _ (c .before .before .before .before .before .begin .ensures) (c .before .enum-told .given .1) (c .if1 .taken)
 
 latency-requires : tie.Need-latency-requires
 latency-requires c κs = starts-fit (c .before .before .before .before .before .before .before .begin .ensures) (c .before .before .before .enum-told .given .1)
@@ -28,7 +28,7 @@ same-length-2 c = c .before .before .before .before .before .before .before .bef
 
 returns-2 : tie.Need-returns-2
 returns-2 c =
-    bounded-late _ (c .before .before .before .before .before .before .before .before .before .begin .ensures) (c .before .before .before .before .before .enum-told .given .1) (c .before .before .before .before .if1 .left)
+    admitted-within-late _ (c .before .before .before .before .before .before .before .before .before .begin .ensures) (c .before .before .before .before .before .enum-told .given .1) (c .before .before .before .before .if1 .left)
     (c .before .latency .ensures _ _)
     (c .if2 .taken)
 
@@ -43,7 +43,7 @@ same-length-4 c = c .before .before .before .before .before .before .before .bef
 
 returns-4 : tie.Need-returns-4
 returns-4 c =
-    bounded-done _ (c .before .before .before .before .before .before .before .before .before .begin .ensures) (c .before .before .before .before .before .enum-told .given .1) (c .before .before .before .before .if1 .left)
+    admitted-within-done _ (c .before .before .before .before .before .before .before .before .before .begin .ensures) (c .before .before .before .before .before .enum-told .given .1) (c .before .before .before .before .if1 .left)
     (c .before .latency .ensures _ _)
     (c .if2 .left)
 

@@ -3,7 +3,7 @@ use Prim.Native.Nat.{_+_, _-_, _≤_}
 use native.Mathlib.Omega.{arith}
 use borrow.Author.Needs.{needs}
 use lib.ListN.{length}
-use Rattle.laws.specs.Rows.{at}
+use Rattle.maths.specs.Rows.{at}
 use Rattle.model.specs.Limits as limit
 use Rattle.model.specs.Order.{ordered}
 use Rattle.theory.specs.refusals.SoundGraph.{closed-turned}

@@ -6,8 +6,8 @@ use Prim.Native.Nat.{ℕ, _+_, _≤_, _<_}
 use native.Mathlib.Omega.{arith}
 use lib.ListN.{length, set, replicate, length-set, length-replicate, getD-replicate}
 use lib.Seq.{getD-set-same, getD-set-other}
-use Rattle.laws.specs.Cases.{same-or-not, lt-or-le}
-use Rattle.laws.specs.Rows.{at}
+use Rattle.maths.specs.Cases.{same-or-not, lt-or-le}
+use Rattle.maths.specs.Rows.{at}
 use Rattle.model.specs.Limits as limit
 use Rattle.model.specs.Order.{Order, size, edgeCount, Closed, Kept}
 use Rattle.model.specs.Cycle.{Behind, Back}

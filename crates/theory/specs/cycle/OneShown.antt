@@ -4,8 +4,8 @@ use mathlib.Core.List.{List}
 use Prim.Native.Nat.{ℕ, zero, suc, _+_, _-_}
 use native.Mathlib.Omega.{arith}
 use lib.ListN.{length}
-use Rattle.laws.specs.Rows.{at, same-row}
-use Rattle.laws.specs.Lowest.{Lowest, lowest-one}
+use Rattle.maths.specs.Rows.{at, same-row}
+use Rattle.maths.specs.Lowest.{Lowest, lowest-one}
 use Rattle.model.specs.Order.{Order, size}
 use Rattle.model.specs.Cycle.{Since, Shown}
 use Rattle.theory.specs.cycle.OneTrail.{trail-one, back-same, back-one}

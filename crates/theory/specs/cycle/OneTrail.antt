@@ -6,9 +6,9 @@ use Prim.Native.Nat.{ℕ, zero, suc, _+_, _-_, _≤_, _<_}
 use native.Mathlib.Numerals.{add-one}
 use native.Mathlib.Omega.{arith}
 use lib.ListN.{length}
-use Rattle.laws.specs.Cases.{lt-or-le}
-use Rattle.laws.specs.Rows.{at, same-row}
-use Rattle.laws.specs.Lowest.{lowest-one}
+use Rattle.maths.specs.Cases.{lt-or-le}
+use Rattle.maths.specs.Rows.{at, same-row}
+use Rattle.maths.specs.Lowest.{lowest-one}
 use Rattle.model.specs.Order.{Order, size, Kept}
 use Rattle.model.specs.Cycle.{Behind, Back, Trail}
 use Rattle.theory.specs.cycle.PlacesMet.{apart-few}

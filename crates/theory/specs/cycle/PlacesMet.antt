@@ -7,9 +7,9 @@ use native.Mathlib.Numerals.{add-one}
 use native.Mathlib.Omega.{arith}
 use lib.ListN.{length, set, replicate, length-set, length-replicate}
 use lib.Seq.{getD-set-same, getD-set-other}
-use Rattle.laws.specs.Cases.{same-or-not, lt-or-le}
-use Rattle.laws.specs.Rows.{at, blank}
-use Rattle.laws.specs.Count.{marks, marks-le, marks-none, marks-set}
+use Rattle.maths.specs.Cases.{same-or-not, lt-or-le}
+use Rattle.maths.specs.Rows.{at, blank}
+use Rattle.maths.specs.Count.{marks, marks-le, marks-none, marks-set}
 
 -- at the number of each of met's first `count` entries, `places` has its place + 1, and nothing else is marked there
 pub record Places (met places : List ℕ) (n count : ℕ) : Type 0 where

@@ -6,17 +6,17 @@ use Prim.Native.Nat.{ℕ, zero, suc, _+_, _-_, _≤_, _<_}
 use native.Mathlib.Numerals.{add-one}
 use native.Mathlib.Omega.{arith}
 use lib.ListN.{length, set, take, replicate, length-replicate}
-use Rattle.laws.specs.Cases.{lt-or-le}
-use Rattle.laws.specs.Rows.{at}
-use Rattle.laws.specs.Lowest.{Lowest, find}
+use Rattle.maths.specs.Cases.{lt-or-le}
+use Rattle.maths.specs.Rows.{at}
+use Rattle.maths.specs.Lowest.{Lowest, find}
 use Rattle.model.specs.Limits as limit
 use Rattle.model.specs.Order.{Order, size, edgeCount, source, target, Closed, Cyclic, Kept}
 use Rattle.model.specs.Cycle.{Trail, Shown}
 use Rattle.theory.specs.order.KeptOperations.{kept-inside, cyclic-kept}
 use Rattle.theory.specs.cycle.TurnedRound.{turned-some}
 use Rattle.theory.specs.cycle.LowestPredecessors.{Lower, Backed, backed-none, backed-step, backed-end}
-use Rattle.theory.specs.cycle.WalkUntilMetAgain.{Stays, Walking, walking-none, walking-room, walking-step, walking-end, Rounds, leads-stays, trail-made}
-use Rattle.theory.specs.cycle.WritingTheCycle.{Lesser, Least, least-none, least-step, Wrote, wrote-none, wrote-step, shown-made}
+use Rattle.theory.specs.cycle.WalkUntilMetAgain.{NeverLeaves, Walking, walking-none, walking-room, walking-step, walking-end, MetAgain, leads-stays, trail-made}
+use Rattle.theory.specs.cycle.WritingTheCycle.{Lesser, LeastNumber, least-none, least-step, Wrote, wrote-none, wrote-step, shown-made}
 
 -- ---- what is shown is a cycle
 module _ {o : Order} {cycle : List ℕ} (s : Shown o cycle) where
@@ -62,10 +62,10 @@ record SomeRounds (back : List ℕ) (first : ℕ) : Type 0 where
   met : List ℕ
   count : ℕ
   twice : ℕ
-  rounds : Rounds back first met count twice
+  rounds : MetAgain back first met count twice
 
 -- a walk that stays ends, since each step takes a place more
-some-rounds : {back : List ℕ} {first : ℕ} → Stays back first → (left : ℕ) {met places : List ℕ} {count here : ℕ}
+some-rounds : {back : List ℕ} {first : ℕ} → NeverLeaves back first → (left : ℕ) {met places : List ℕ} {count here : ℕ}
     → Walking back first met places count here → limit.operations ≤ count + left → SomeRounds back first
 some-rounds stays zero {met} {places} {count} {here} w l =
     ⊎-elim
@@ -79,13 +79,13 @@ some-rounds stays (suc left) {met} {places} {count} {here} w l =
     (lt-or-le 0 (at places here))
 
 -- of places one after another, one has the least number
-some-least : (met : List ℕ) (twice n : ℕ) → (best : ℕ) × Least met twice (twice + 1 + n) best
-some-least met twice zero = (twice, subst (λ (n : ℕ). Least met twice n twice) (omega arith) least-none)
+some-least : (met : List ℕ) (twice n : ℕ) → (best : ℕ) × LeastNumber met twice (twice + 1 + n) best
+some-least met twice zero = (twice, subst (λ (n : ℕ). LeastNumber met twice n twice) (omega arith) least-none)
 some-least met twice (suc n) =
     let (best, least) = some-least met twice n in
     let (r, lesser) = some-lesser met best (twice + 1 + n) in
     let e : twice + 1 + n + 1 ≡ twice + 1 + suc n = omega arith in
-    (r, subst (λ (k : ℕ). Least met twice k r) e (least-step least lesser))
+    (r, subst (λ (k : ℕ). LeastNumber met twice k r) e (least-step least lesser))
 
 -- the cycle's first k entries can be written
 some-wrote : (met : List ℕ) {twice count lowest : ℕ} → twice ≤ lowest → lowest < count → (before : List ℕ) → count - twice ≤ length before
@@ -109,7 +109,7 @@ trail-shown : {o : Order} (met : List ℕ) (count : ℕ) {twice : ℕ} → Trail
 trail-shown {o} met count {twice} trail room inside =
     let (lowest, found) = some-least met twice (count - (twice + 1)) in
     let e : twice + 1 + (count - (twice + 1)) ≡ count = omega arith in
-    let least : Least met twice count lowest = subst (λ (n : ℕ). Least met twice n lowest) e found in
+    let least : LeastNumber met twice count lowest = subst (λ (n : ℕ). LeastNumber met twice n lowest) e found in
     let wide : count - twice ≤ length (replicate {A = ℕ} count 0) = omega (arith, length-replicate {A = ℕ} count 0) in
     let (after, wrote) = some-wrote met (least .late) (least .inside) (replicate count 0) wide (count - twice) (omega arith) in
     record { cycle = take (count - twice) after; shown = shown-made {after = after} trail room least wrote wide }

@@ -7,9 +7,9 @@ use native.Mathlib.Omega.{arith}
 use borrow.Author.Count.{below-more}
 use lib.ListN.{length, set, take, replicate, length-set, length-replicate}
 use lib.Seq.{getD-set-same, getD-set-other}
-use Rattle.laws.specs.Rows.{at, take-at, take-long}
-use Rattle.laws.specs.Count.{marks-lt}
-use Rattle.laws.specs.Lowest.{Lowest}
+use Rattle.maths.specs.Rows.{at, take-at, take-long}
+use Rattle.maths.specs.Count.{marks-lt}
+use Rattle.maths.specs.Lowest.{Lowest}
 use Rattle.model.specs.Limits as limit
 use Rattle.model.specs.Order.{Order, size, Closed, Kept}
 use Rattle.model.specs.Cycle.{Back, Trail}
@@ -28,7 +28,7 @@ unfolding visited
 visited-next back first k = rw add-one
 
 -- a walk that never leaves the limit
-pub record Stays (back : List ℕ) (first : ℕ) : Type 0 where
+pub record NeverLeaves (back : List ℕ) (first : ℕ) : Type 0 where
   pub each : (k : ℕ) → visited back first k < limit.operations
 
 -- the first `count` of what is met, all different, stand in `met`, and have their places; `here` comes next
@@ -39,7 +39,7 @@ pub record Walking (back : List ℕ) (first : ℕ) (met places : List ℕ) (coun
   pub comes : here ≡ visited back first count
 
 -- what is met until one comes again: the one at `twice`
-pub record Rounds (back : List ℕ) (first : ℕ) (met : List ℕ) (count twice : ℕ) : Type 0 where
+pub record MetAgain (back : List ℕ) (first : ℕ) (met : List ℕ) (count twice : ℕ) : Type 0 where
   pub long : length met ≡ limit.operations
   pub few : count ≤ limit.operations
   pub is : (k : ℕ) → k < count → at met k ≡ visited back first k
@@ -58,14 +58,14 @@ module _ {back : List ℕ} {first : ℕ} where
   }
 
   module _ {met places : List ℕ} {count here : ℕ} (w : Walking back first met places count here) where
-    pub walking-inside : Stays back first → here < limit.operations
+    pub walking-inside : NeverLeaves back first → here < limit.operations
     walking-inside s = omega (arith, w .comes, s .each count)
 
     -- while one comes that has no place, there is room
-    pub walking-room : Stays back first → at places here ≡ 0 → count < limit.operations
+    pub walking-room : NeverLeaves back first → at places here ≡ 0 → count < limit.operations
     walking-room s z = omega (arith, marks-lt places limit.operations here (walking-inside s) z, w .placed .counts)
 
-    pub walking-step : Stays back first → at places here ≡ 0
+    pub walking-step : NeverLeaves back first → at places here ≡ 0
         → Walking back first (set met count here) (set places here (count + 1)) (count + 1) (at back here)
     walking-step s z =
         let met′ : List ℕ = set met count here in
@@ -78,7 +78,7 @@ module _ {back : List ℕ} {first : ℕ} where
           comes = ap (at back) (w .comes) ∙ sym (visited-next back first count);
         }
 
-    pub walking-end : 1 ≤ at places here → Rounds back first met count (at places here - 1)
+    pub walking-end : 1 ≤ at places here → MetAgain back first met count (at places here - 1)
     walking-end m = record {
       long = w .long;
       few = places-few (w .placed);
@@ -98,11 +98,11 @@ module _ {o : Order} {back : List ℕ} {first : ℕ} (leads : Leads o back) (sta
   visited-back : (k : ℕ) → Back o (visited back first k) (visited back first (k + 1))
   visited-back k = back-same refl (sym (visited-next back first k)) (leads .each (visited back first k) (visited-kept k))
 
-  pub leads-stays : Closed o → Stays back first
+  pub leads-stays : Closed o → NeverLeaves back first
   leads-stays closed = record { each = λ k. omega (arith, kept-inside closed (visited-kept k), closed .few) }
 
   -- along the lowest kept predecessors, what is met until one comes again is the trail
-  pub trail-made : {met : List ℕ} {count twice : ℕ} → Rounds back first met count twice → Trail o (take count met) twice
+  pub trail-made : {met : List ℕ} {count twice : ℕ} → MetAgain back first met count twice → Trail o (take count met) twice
   unfolding visited
   trail-made {met} {count} {twice} r =
       let m : List ℕ = take count met in

@@ -7,16 +7,16 @@ use native.Mathlib.Omega.{arith}
 use borrow.Author.Count.{below-more}
 use lib.ListN.{length, set, take, length-set}
 use lib.Seq.{getD-set-same, getD-set-other}
-use Rattle.laws.specs.Cases.{lt-or-le}
-use Rattle.laws.specs.Rows.{at, take-at, take-long}
-use Rattle.laws.specs.Lowest.{Lowest}
+use Rattle.maths.specs.Cases.{lt-or-le}
+use Rattle.maths.specs.Rows.{at, take-at, take-long}
+use Rattle.maths.specs.Lowest.{Lowest}
 use Rattle.model.specs.Order.{Order, size}
 use Rattle.model.specs.Cycle.{Trail, Since, Shown}
 use Rattle.theory.specs.cycle.OneTrail.{back-same, trail-inside}
 use Rattle.theory.specs.cycle.TurnedRound.{Turned, Turn, turned-inside, turned-round, turn-back, turn-again}
 
 -- of the places from `twice` to before `count`, `best` has the least number
-pub record Least (met : List ℕ) (twice count best : ℕ) : Type 0 where
+pub record LeastNumber (met : List ℕ) (twice count best : ℕ) : Type 0 where
   pub late : twice ≤ best
   pub inside : best < count
   pub least : (k : ℕ) → k < count → twice ≤ k → at met best ≤ at met k
@@ -27,22 +27,22 @@ pub record Lesser (met : List ℕ) (old new r : ℕ) : Type 0 where
   pub keep-old : at met old ≤ at met new → r ≡ old
 
 module _ {met : List ℕ} {twice : ℕ} where
-  pub least-none : Least met twice (twice + 1) twice
+  pub least-none : LeastNumber met twice (twice + 1) twice
   least-none = record {
     late = omega arith;
     inside = omega arith;
     least = λ k l r. let e : twice ≡ k = omega arith in omega (arith, ap (at met) e);
   }
 
-  least-more : {count best new : ℕ} → Least met twice count best → twice ≤ new → new < count + 1 → at met new ≤ at met best → at met new ≤ at met count
-      → Least met twice (count + 1) new
+  least-more : {count best new : ℕ} → LeastNumber met twice count best → twice ≤ new → new < count + 1 → at met new ≤ at met best → at met new ≤ at met count
+      → LeastNumber met twice (count + 1) new
   least-more {count} {best} {new} h late inside old here = record {
     late = late;
     inside = inside;
     least = below-more (λ (k : ℕ). twice ≤ k → at met new ≤ at met k) count (λ k l t. omega (arith, h .least k l t)) (λ t. here);
   }
 
-  pub least-step : {count best r : ℕ} → Least met twice count best → Lesser met best count r → Least met twice (count + 1) r
+  pub least-step : {count best r : ℕ} → LeastNumber met twice count best → Lesser met best count r → LeastNumber met twice (count + 1) r
   least-step {count} {best} {r} h c =
       ⊎-elim
       (λ l. rw (c .take-new l) (least-more h (omega (arith, h .late, h .inside)) (omega arith) (omega arith) (omega arith)))
@@ -74,7 +74,7 @@ module _ {met : List ℕ} {twice count lowest : ℕ} {before : List ℕ} where
       }
 
 module _ {o : Order} {met : List ℕ} {twice count lowest : ℕ} {before after : List ℕ}
-    (trail : Trail o (take count met) twice) (room : count ≤ length met) (least : Least met twice count lowest)
+    (trail : Trail o (take count met) twice) (room : count ≤ length met) (least : LeastNumber met twice count lowest)
     (wrote : Wrote met twice count lowest before after (count - twice)) (wide : count - twice ≤ length before) where
   met-long : length (take count met) ≡ count
   met-long = take-long count met room

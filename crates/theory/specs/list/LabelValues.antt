@@ -7,9 +7,9 @@ use native.Mathlib.Nat.{not-suc-le-zero}
 use native.Mathlib.Omega.{arith}
 use lib.ListN.{length, set}
 use lib.Seq.{getD-set-same, getD-set-other}
-use Rattle.laws.specs.Cases.{same-or-not, lt-or-le}
-use Rattle.laws.specs.Rows.{at, past}
-use Rattle.laws.specs.Lowest.{None, find}
+use Rattle.maths.specs.Cases.{same-or-not, lt-or-le}
+use Rattle.maths.specs.Rows.{at, past}
+use Rattle.maths.specs.Lowest.{None, find}
 use Rattle.model.specs.Order.{Order, ordered, turned, Closed, Edge, Walk, one, more, Cyclic}
 use Rattle.model.specs.Graph.{Graph, order, many, edgesOf}
 use Rattle.model.specs.Tables.{Keeps, Earliest}
@@ -25,11 +25,11 @@ labels-one g a b x y i l =
     omega (arith, p .longest (at b i) (q .chain), q .longest (at a i) (p .chain))
 
 -- a row of 1s, one for each operation
-pub record Ones (n : ℕ) (ones : List ℕ) : Type 0 where
+pub record AllOne (n : ℕ) (ones : List ℕ) : Type 0 where
   pub long : length ones ≡ n
   pub each : (i : ℕ) → i < n → at ones i ≡ 1
 
-module _ (g : Graph) (c : Closed (order g)) (ones s : List ℕ) (u : Ones (many g) ones) (h : Earliest (turned (ordered ones (g .from) (g .to))) s) where
+module _ (g : Graph) (c : Closed (order g)) (ones s : List ℕ) (u : AllOne (many g) ones) (h : Earliest (turned (ordered ones (g .from) (g .to))) s) where
   -- s falls along each edge
   falls : (e : ℕ) → e < edgesOf g → at s (at (g .to) e) + 1 ≤ at s (at (g .from) e)
   falls e l =
@@ -151,7 +151,7 @@ module _ (g : Graph) (c : Closed (order g)) (ones : List ℕ) where
   walk-back (one e) = one (edge-back e)
   walk-back (more e w) = longer (walk-back w) (edge-back e)
 
-  module _ (u : Ones (many g) ones) where
+  module _ (u : AllOne (many g) ones) where
     pub ones-closed : Closed (turned (ordered ones (g .from) (g .to)))
     ones-closed = record {
       few = omega (arith, c .few, u .long);

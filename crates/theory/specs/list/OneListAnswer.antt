@@ -8,9 +8,9 @@ use native.Mathlib.Omega.{arith}
 use lib.Dec.{eqb}
 use lib.ListN.{length}
 use borrow.Author.Tests.{eq-eqb, eqb-true}
-use Rattle.laws.specs.Cases.{none-some, some-one}
-use Rattle.laws.specs.Rows.{at, over}
-use Rattle.laws.specs.Counting.{some-or-none}
+use Rattle.maths.specs.Cases.{none-some, some-one}
+use Rattle.maths.specs.Rows.{at, over}
+use Rattle.maths.specs.Counting.{some-or-none}
 use Rattle.model.specs.Order.{Order, Closed}
 use Rattle.model.specs.Graph.{Graph, Sound, order, many, delay, busyTime}
 use Rattle.model.specs.Tables.{Latency}

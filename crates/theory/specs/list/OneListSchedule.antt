@@ -7,17 +7,17 @@ use native.Mathlib.Omega.{arith}
 use native.Mathlib.Nat.{eq-or-lt-of-le, le-of-suc-le-suc}
 use lib.Dec.{eqb}
 use lib.ListN.{length, take}
-use Rattle.laws.specs.Cases.{lt-or-le}
-use Rattle.laws.specs.Tests.{_and_, two, same-test}
-use Rattle.laws.specs.Rows.{at, same-row}
-use Rattle.laws.specs.Sum.{sum-bound}
-use Rattle.laws.specs.Counting.{count-same}
+use Rattle.maths.specs.Cases.{lt-or-le}
+use Rattle.maths.specs.Tests.{_and_, two, same-test}
+use Rattle.maths.specs.Rows.{at, same-row}
+use Rattle.maths.specs.Sum.{sum-bound}
+use Rattle.maths.specs.Counting.{count-same}
 use Rattle.model.specs.Limits as limit
 use Rattle.model.specs.Graph.{Graph, Sound, many, delay, typeOf}
 use Rattle.model.specs.Rule.{placed, candidate, ahead, candidatesAhead, startsNow, stepped, AllPlaced, after, ListStarts}
 use Rattle.theory.specs.list.LabelValues.{labels-one}
 use Rattle.theory.specs.list.OneStep.{ahead-same, starts-is, is-starts, starts-unplaced, stepped-long, starts-at, stays-at}
-use Rattle.theory.specs.list.Progress.{Doable, allDelays, finished}
+use Rattle.theory.specs.list.Progress.{Doable, allDelays, all-finished}
 
 -- ---- one value
 -- two rows of labels that agree on the operations
@@ -105,7 +105,7 @@ delays-fit g s = omega (arith, limits-fit, sum-bound (delay g) limit.longest (ma
 
 module _ (g : Graph) (labels units : List ℕ) (can : Doable g units) where
   pub placed-by : (k : ℕ) → allDelays g ≤ k → AllPlaced g (after g labels units k)
-  placed-by k enough = record { each = λ i b. finished g labels units can k enough i b .placed }
+  placed-by k enough = record { each = λ i b. all-finished g labels units can k enough i b .placed }
 
   -- every operation is placed within as many advances as there are steps
   pub all-placed : AllPlaced g (after g labels units limit.steps)

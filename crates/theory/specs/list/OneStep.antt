@@ -8,19 +8,19 @@ use native.Mathlib.Omega.{arith}
 use lib.Dec.{eqb, ltb}
 use lib.ListN.{length}
 use borrow.Author.Tests.{eq-eqb, eqb-true, lt-ltb, ltb-true, le-leb, leb-true}
-use Rattle.laws.specs.Cases.{lt-or-le}
-use Rattle.laws.specs.Tests.{_and_, two, clash, off, same-test, and-true, and-left, and-right, or-left, or-right, or-cases, neg-true, neg-false}
-use Rattle.laws.specs.Rows.{at, tabulate-long, tabulate-at, past}
-use Rattle.laws.specs.Count.{count}
-use Rattle.laws.specs.Counting.{count-same, count-cover, count-zero, count-nowhere, Linear, rank, firsts}
+use Rattle.maths.specs.Cases.{lt-or-le}
+use Rattle.maths.specs.Tests.{_and_, two, clash, off, same-test, and-true, and-left, and-right, or-left, or-right, or-cases, neg-true, neg-false}
+use Rattle.maths.specs.Rows.{at, tabulate-long, tabulate-at, past}
+use Rattle.maths.specs.Count.{count}
+use Rattle.maths.specs.Counting.{count-same, count-cover, count-zero, count-nowhere, Linear, rank, firsts}
 use Rattle.model.specs.Order.{source, target}
 use Rattle.model.specs.Graph.{Graph, order, many, edgesOf, delay, busyTime, typeOf}
 use Rattle.model.specs.Use.{runs}
-use Rattle.model.specs.Rule.{placed, over, holds, candidate, inUse, ahead, candidatesAhead, startsNow, pickStart, stepped}
+use Rattle.model.specs.Rule.{placed, finished, blocks, candidate, inUse, ahead, candidatesAhead, startsNow, pickStart, stepped}
 
 -- ---- the tests as facts
 -- i is placed with t + d ≤ l
-pub record Over (g : Graph) (t : List ℕ) (l i : ℕ) : Type 0 where
+pub record Finished (g : Graph) (t : List ℕ) (l i : ℕ) : Type 0 where
   pub placed : 1 ≤ at t i
   pub ended : at t i + delay g i ≤ l
 
@@ -34,7 +34,7 @@ pub record Uses (g : Graph) (t : List ℕ) (k l i : ℕ) : Type 0 where
 -- i is not placed, and every predecessor of it is over
 pub record Candidate (g : Graph) (t : List ℕ) (l i : ℕ) : Type 0 where
   pub unplaced : at t i ≡ 0
-  pub ready : (e : ℕ) → e < edgesOf g → target (order g) e ≡ i → Over g t l (source (order g) e)
+  pub ready : (e : ℕ) → e < edgesOf g → target (order g) e ≡ i → Finished g t l (source (order g) e)
 
 -- i starts: a candidate, and those running and those before it leave it a unit
 pub record Starts (g : Graph) (labels units t : List ℕ) (l i : ℕ) : Type 0 where
@@ -47,16 +47,16 @@ abbrev pub uses : Graph → List ℕ → ℕ → ℕ → ℕ → Bool
 uses g t k l i = placed t i and runs g t k l i
 
 module _ (g : Graph) (t : List ℕ) (l : ℕ) where
-  pub over-is : (i : ℕ) → over g t l i ≡ true → Over g t l i
-  unfolding over
-  over-is i h = record {
+  pub finished-is : (i : ℕ) → finished g t l i ≡ true → Finished g t l i
+  unfolding finished
+  finished-is i h = record {
     placed = ltb-true 0 (at t i) (and-left _ _ h);
     ended = leb-true (at t i + delay g i) l (and-right _ _ h);
   }
 
-  pub is-over : (i : ℕ) → Over g t l i → over g t l i ≡ true
-  unfolding over
-  is-over i h = and-true (lt-ltb 0 (at t i) (h .placed)) (le-leb (at t i + delay g i) l (h .ended))
+  pub is-finished : (i : ℕ) → Finished g t l i → finished g t l i ≡ true
+  unfolding finished
+  is-finished i h = and-true (lt-ltb 0 (at t i) (h .placed)) (le-leb (at t i + delay g i) l (h .ended))
 
   pub uses-is : (k i : ℕ) → uses g t k l i ≡ true → Uses g t k l i
   unfolding runs
@@ -78,29 +78,29 @@ module _ (g : Graph) (t : List ℕ) (l : ℕ) where
       (and-true (le-leb (at t i) l (h .begun)) (lt-ltb l (at t i + busyTime g i) (h .going))))
 
   pub candidate-is : (i : ℕ) → candidate g t l i ≡ true → Candidate g t l i
-  unfolding candidate holds
+  unfolding candidate blocks
   candidate-is i h = record {
     unplaced = eqb-true (at t i) 0 (and-left _ _ h);
     ready = λ e b q.
-        over-is (source (order g) e)
+        finished-is (source (order g) e)
         (⊎-elim
         (λ yes. yes)
         (λ not.
         absurd
-        (count-nowhere (holds g t l i) (edgesOf g) e (eqb-true (count (holds g t l i) (edgesOf g)) 0 (and-right _ _ h)) b
+        (count-nowhere (blocks g t l i) (edgesOf g) e (eqb-true (count (blocks g t l i) (edgesOf g)) 0 (and-right _ _ h)) b
         (and-true (eq-eqb (target (order g) e) i q) (neg-true not))))
-        (two (over g t l (source (order g) e))));
+        (two (finished g t l (source (order g) e))));
   }
 
   pub is-candidate : (i : ℕ) → Candidate g t l i → candidate g t l i ≡ true
-  unfolding candidate holds
+  unfolding candidate blocks
   is-candidate i h =
       and-true (eq-eqb (at t i) 0 (h .unplaced))
-      (eq-eqb (count (holds g t l i) (edgesOf g)) 0
-      (count-zero (holds g t l i) (edgesOf g)
+      (eq-eqb (count (blocks g t l i) (edgesOf g)) 0
+      (count-zero (blocks g t l i) (edgesOf g)
       (λ e b q.
       clash
-      (is-over (source (order g) e) (h .ready e b (eqb-true (target (order g) e) i (and-left _ _ q))))
+      (is-finished (source (order g) e) (h .ready e b (eqb-true (target (order g) e) i (and-left _ _ q))))
       (neg-false _ (and-right _ _ q)))))
 
 -- ---- the order of priority

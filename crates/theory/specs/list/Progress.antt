@@ -8,18 +8,18 @@ use native.Mathlib.Omega.{arith}
 use lib.Dec.{eqb, ltb}
 use lib.ListN.{replicate}
 use borrow.Author.Tests.{eq-eqb, eqb-true, lt-ltb, le-ltb, ltb-true}
-use Rattle.laws.specs.Cases.{lt-or-le}
-use Rattle.laws.specs.Tests.{_and_, and-true, and-left, and-right}
-use Rattle.laws.specs.Rows.{at, blank}
-use Rattle.laws.specs.Sum.{sum, sum-same, sum-le, sum-part}
-use Rattle.laws.specs.Count.{count}
-use Rattle.laws.specs.Counting.{sum-strict, sum-find, count-zero, count-pos, count-find, some-or-none, least}
+use Rattle.maths.specs.Cases.{lt-or-le}
+use Rattle.maths.specs.Tests.{_and_, and-true, and-left, and-right}
+use Rattle.maths.specs.Rows.{at, blank}
+use Rattle.maths.specs.Sum.{sum, sum-same, sum-le, sum-part}
+use Rattle.maths.specs.Count.{count}
+use Rattle.maths.specs.Counting.{sum-strict, sum-find, count-zero, count-pos, count-find, some-or-none, least}
 use Rattle.model.specs.Limits as limit
 use Rattle.model.specs.Order.{source}
 use Rattle.model.specs.Graph.{Graph, Sound, order, many, delay, busyTime, typeOf}
 use Rattle.model.specs.Tables.{Keeps}
 use Rattle.model.specs.Rule.{placed, candidate, inUse, startsNow, pickStart, stepped, after}
-use Rattle.theory.specs.list.OneStep.{Over, uses, uses-is, is-candidate, starts-is, starts-unplaced, starts-at, changed, kept, typed, starter, filled}
+use Rattle.theory.specs.list.OneStep.{Finished, uses, uses-is, is-candidate, starts-is, starts-unplaced, starts-at, changed, kept, typed, starter, filled}
 use Rattle.theory.specs.list.ReachedStates.{Reached, reached}
 
 -- what lets every operation be placed: each type in use has a unit, none keeps its unit longer than its successors wait, and no cycle (a row keeps the order)
@@ -207,9 +207,9 @@ module _ (g : Graph) (labels units : List ℕ) (can : Doable g units) where
       )
 
   -- after as many steps as there is work every operation is placed, and over
-  pub finished : (k : ℕ) → allDelays g ≤ k → (i : ℕ) → i < many g → Over g (after g labels units k) (k + 1) i
+  pub all-finished : (k : ℕ) → allDelays g ≤ k → (i : ℕ) → i < many g → Finished g (after g labels units k) (k + 1) i
   unfolding work
-  finished k enough i b =
+  all-finished k enough i b =
       let t = after g labels units k in
       let none = sum-part (λ j. rest (at t j) (delay g j) (k + 1)) (many g) i b in
       let p : 1 ≤ at t i =

@@ -5,20 +5,20 @@ use mathlib.Core.List.{List}
 use Prim.Native.Nat.{ℕ, zero, suc, _+_, _-_, _≤_, _<_}
 use native.Mathlib.Omega.{arith}
 use lib.ListN.{length, replicate, length-replicate}
-use Rattle.laws.specs.Cases.{lt-or-le}
-use Rattle.laws.specs.Rows.{at, blank}
-use Rattle.laws.specs.Counting.{count-mono, count-zero}
+use Rattle.maths.specs.Cases.{lt-or-le}
+use Rattle.maths.specs.Rows.{at, blank}
+use Rattle.maths.specs.Counting.{count-mono, count-zero}
 use Rattle.model.specs.Limits as limit
 use Rattle.model.specs.Order.{source, target}
 use Rattle.model.specs.Graph.{Graph, order, many, edgesOf}
 use Rattle.model.specs.Rule.{inUse, stepped, after}
-use Rattle.theory.specs.list.OneStep.{Over, uses, uses-is, is-uses, candidate-is, starts-is, stepped-long, changed, kept, units-kept}
+use Rattle.theory.specs.list.OneStep.{Finished, uses, uses-is, is-uses, candidate-is, starts-is, stepped-long, changed, kept, units-kept}
 
 -- the starts t before step l
 pub record Reached (g : Graph) (units t : List ℕ) (l : ℕ) : Type 0 where
   pub wide : many g ≤ length t
   pub early : (i : ℕ) → i < many g → at t i < l
-  pub after : (e : ℕ) → e < edgesOf g → 1 ≤ at t (target (order g) e) → Over g t (at t (target (order g) e)) (source (order g) e)
+  pub after : (e : ℕ) → e < edgesOf g → 1 ≤ at t (target (order g) e) → Finished g t (at t (target (order g) e)) (source (order g) e)
   pub room : (k m : ℕ) → m < l → inUse g t k m ≤ at units k
 
 -- what is in use at m where all are placed before l, at or before m, was in use at any step between
@@ -69,7 +69,7 @@ module _ (g : Graph) (labels units t : List ℕ) (l : ℕ) (pos : 1 ≤ l) (r : 
       (changed g labels units t l i (r .wide)))
 
   -- what was over stays over
-  still-over : (m i : ℕ) → Over g t m i → Over g next m i
+  still-over : (m i : ℕ) → Finished g t m i → Finished g next m i
   unfolding next
   still-over m i h =
       let e = kept g labels units t l i (h .placed) in
@@ -89,9 +89,9 @@ module _ (g : Graph) (labels units t : List ℕ) (l : ℕ) (pos : 1 ≤ l) (r : 
         let j = target (order g) e in
         let i = source (order g) e in
         ⊎-elim
-        (λ q. subst (λ (m : ℕ). Over g next m i) (sym q) (still-over (at t j) i (r .after e b (omega arith))))
+        (λ q. subst (λ (m : ℕ). Finished g next m i) (sym q) (still-over (at t j) i (r .after e b (omega arith))))
         (λ w.
-        subst (λ (m : ℕ). Over g next m i) (sym (w .1))
+        subst (λ (m : ℕ). Finished g next m i) (sym (w .1))
         (still-over l i (candidate-is g t l j (starts-is g labels units t l j (w .0) .may) .ready e b refl)))
         (changed g labels units t l j (r .wide));
     room = λ k m b.

@@ -4,7 +4,7 @@ use mathlib.Core.Logic.{⊎-elim}
 use mathlib.Core.Option.{Option}
 use mathlib.Core.List.{List}
 use Prim.Native.Nat.{ℕ}
-use Rattle.laws.specs.WordLaws.{compare, same-list}
+use Rattle.maths.specs.WordLaws.{compare, same-list}
 use Rattle.model.specs.Graph.{Graph, many}
 use Rattle.model.specs.Listing.{Least, NoneLeft}
 

@@ -4,11 +4,11 @@ use mathlib.Core.Option.{Option, none, some}
 use mathlib.Core.List.{List}
 use Prim.Native.Nat.{ℕ}
 use lib.ListN.{length}
-use Rattle.laws.specs.Cases.{none-some, some-one}
+use Rattle.maths.specs.Cases.{none-some, some-one}
 use Rattle.model.specs.Graph.{Graph, order}
-use Rattle.model.specs.Refusals.{Rule}
+use Rattle.model.specs.Refusals.{Check}
 use Rattle.model.specs.Answers.{numbered, RowAfter}
-use Rattle.model.specs.Listing.{NoneLeft, ManyWindows, ListerUneven, listerChecks, refusalIn, Gives, ListerAnswer}
+use Rattle.model.specs.Listing.{NoneLeft, ManyWindows, ListerUneven, listerChecks, refusalInListed, Gives, ListerAnswer}
 use Rattle.model.specs.declared.Listed.{Listed}
 use Rattle.model.specs.declared.Listed.the-variants as answers
 use Rattle.theory.specs.refusals.OneRefusal.{Ones, first-one, flat-one, ones-single, ones-append, front-unit-ones}
@@ -28,13 +28,13 @@ lister-ones g units bound asked room =
 
 module _ (g : Graph) (units : List ℕ) (bound : ℕ) (asked : Option (List ℕ)) (out : List ℕ) where
   -- refusals 1 to 10 of this question
-  abbrev checks : List Rule
+  abbrev checks : List Check
   checks = listerChecks g units bound asked (length out)
 
   ones : Ones checks
   ones = lister-ones g units bound asked (length out)
 
-  same-answer : (r s : Listed) (a b : List ℕ) → refusalIn r ≡ refusalIn s → ListerAnswer g units bound asked out r a → ListerAnswer g units bound asked out s b → r ≡ s
+  same-answer : (r s : Listed) (a b : List ℕ) → refusalInListed r ≡ refusalInListed s → ListerAnswer g units bound asked out r a → ListerAnswer g units bound asked out s b → r ≡ s
   unfolding RowAfter Gives
   same-answer answers.Found answers.Found a b e x y = refl
   same-answer answers.Found answers.NoneLeft a b e x y = absurd (least-left g units bound asked _ (x .row .is) (y .row .none))
@@ -61,6 +61,6 @@ module _ (g : Graph) (units : List ℕ) (bound : ℕ) (asked : Option (List ℕ)
   -- any two outcomes that the contract of `first` or `next` allows are equal
   pub lister-answer-one : (r s : Listed) (a b : List ℕ) → ListerAnswer g units bound asked out r a → ListerAnswer g units bound asked out s b → (r ≡ s) × (a ≡ b)
   lister-answer-one r s a b x y =
-      let refusals = first-one checks ones (refusalIn r) (refusalIn s) (x .first) (y .first) in
+      let refusals = first-one checks ones (refusalInListed r) (refusalInListed s) (x .first) (y .first) in
       let same = same-answer r s a b refusals x y in
       (same, rows-one r a b x (subst (λ (q : Listed). ListerAnswer g units bound asked out q b) (sym same) y))

@@ -1,7 +1,7 @@
 -- Windows lose nothing: each start of a lawful schedule lies between its ASAP and its ALAP start.
 use mathlib.Core.List.{List}
 use Prim.Native.Nat.{ℕ, _≤_, _<_}
-use Rattle.laws.specs.Rows.{at}
+use Rattle.maths.specs.Rows.{at}
 use Rattle.model.specs.Graph.{Graph, order, many}
 use Rattle.model.specs.Tables.{Earliest, Latest}
 use Rattle.model.specs.Use.{Lawful}

@@ -2,8 +2,8 @@
 use mathlib.Core.Logic.{_⊎_, inl, inr, ⊎-elim}
 use mathlib.Core.List.{List}
 use Prim.Native.Nat.{ℕ, _<_}
-use Rattle.laws.specs.Cases.{same-or-not}
-use Rattle.laws.specs.Rows.{at}
+use Rattle.maths.specs.Cases.{same-or-not}
+use Rattle.maths.specs.Rows.{at}
 use Rattle.model.specs.Order.{Order, size, Closed, Cyclic, Kept}
 use Rattle.model.specs.Tables.{Earliest}
 use Rattle.theory.specs.order.PlacingOutcome.{placing-exists, placing-kept, placing-free, placing-done, placing-cyclic}

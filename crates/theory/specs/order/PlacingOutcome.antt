@@ -8,10 +8,10 @@ use native.Mathlib.Numerals.{add-one}
 use native.Mathlib.Omega.{arith}
 use lib.ListN.{length, set, length-set, replicate, length-replicate}
 use lib.Seq.{getD-set-same, getD-set-other}
-use Rattle.laws.specs.Cases.{same-or-not, lt-or-le}
-use Rattle.laws.specs.Rows.{at, blank, same-row}
-use Rattle.laws.specs.Count.{marks, marks-lt, marks-full, marks-set}
-use Rattle.laws.specs.Lowest.{Found, None, find}
+use Rattle.maths.specs.Cases.{same-or-not, lt-or-le}
+use Rattle.maths.specs.Rows.{at, blank, same-row}
+use Rattle.maths.specs.Count.{marks, marks-lt, marks-full, marks-set}
+use Rattle.maths.specs.Lowest.{Found, None, find}
 use Rattle.model.specs.Limits as limit
 use Rattle.model.specs.Order.{Order, size, edgeCount, weight, source, target, Closed, Edge, Walk, one, more, Cyclic, Kept}
 use Rattle.model.specs.Placing.{MayStart, StartsAt, Waits, Placing}
@@ -180,7 +180,7 @@ module _ {o : Order} (c : Closed o) where
       (same, p .counts ∙ ap (λ (l : List ℕ). marks l (size o)) same ∙ sym (p′ .counts))
 
 -- a placing of an order
-pub record Placed (o : Order) : Type 0 where
+pub record SomePlacing (o : Order) : Type 0 where
   pub row : List ℕ
   pub number : ℕ
   pub is : Placing o row number
@@ -234,7 +234,7 @@ module _ {o : Order} where
       (same-or-not (at s i) 0)
 
   -- no operation can be placed any more
-  whole : (s : List ℕ) → Part o s → None (Next o s) (size o) → Placed o
+  whole : (s : List ℕ) → Part o s → None (Next o s) (size o) → SomePlacing o
   whole s h none = record {
     row = s;
     number = marks s (size o);
@@ -243,7 +243,7 @@ module _ {o : Order} where
 
 module _ {o : Order} (c : Closed o) where
   -- place the lowest that can be placed, again and again: each time fewer are left
-  place-on : (fuel : ℕ) (s : List ℕ) → Part o s → size o ≤ marks s (size o) + fuel → Placed o
+  place-on : (fuel : ℕ) (s : List ℕ) → Part o s → size o ≤ marks s (size o) + fuel → SomePlacing o
   place-on zero s h full =
       whole s h (λ i l n. absurd (omega (arith, marks-lt s (size o) i l (n .free))))
   place-on (suc fuel) s h full =
@@ -257,7 +257,7 @@ module _ {o : Order} (c : Closed o) where
       (find (Next o s) (size o) (λ i l. next-decided s i))
 
   -- every order has a placing
-  pub placing-exists : Placed o
+  pub placing-exists : SomePlacing o
   placing-exists =
       let s : List ℕ = replicate limit.operations 0 in
       place-on (size o) s (part-none (length-replicate {A = ℕ} limit.operations 0) (blank limit.operations)) (omega arith)

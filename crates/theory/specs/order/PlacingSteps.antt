@@ -8,9 +8,9 @@ use native.Mathlib.Omega.{arith}
 use borrow.Author.Count.{below-more}
 use lib.ListN.{length, set, length-set}
 use lib.Seq.{getD-set-same, getD-set-other}
-use Rattle.laws.specs.Cases.{same-or-not, lt-or-le}
-use Rattle.laws.specs.Rows.{at}
-use Rattle.laws.specs.Count.{marks, marks-set, marks-le}
+use Rattle.maths.specs.Cases.{same-or-not, lt-or-le}
+use Rattle.maths.specs.Rows.{at}
+use Rattle.maths.specs.Count.{marks, marks-set, marks-le}
 use Rattle.model.specs.Limits as limit
 use Rattle.model.specs.Order.{Order, size, edgeCount, weight, source, target, Closed}
 use Rattle.model.specs.Placing.{MayStart, StartsAt, Waits, Placing}

@@ -8,7 +8,7 @@ use Rattle.theory.specs.cycle.OneShown.{shown-one}
 use Rattle.theory.specs.refusals.OneRefusal.{Ones, ones-single, flat-one}
 use Rattle.theory.specs.refusals.FirstRefusal.{Never}
 
--- ---- the rules say one thing each
+-- ---- the checks say one thing each
 pub cyclic-ones : (o : Order) → Ones (cyclic o)
 cyclic-ones o =
     ones-single (CycleOf o)

@@ -6,48 +6,48 @@ use mathlib.Core.List.{List, [], _∷_, _++_}
 use Prim.Native.Nat.{ℕ, zero, suc, _≤_, _<_}
 use native.Mathlib.Omega.{arith}
 use borrow.Author.Count.{below-none, below-more}
-use Rattle.laws.specs.Lowest.{None, Lowest}
+use Rattle.maths.specs.Lowest.{None, Lowest}
 use Rattle.model.specs.Graph.{Graph}
-use Rattle.model.specs.Refusals.{Rule, Silent, First, Flat, AtLowest, shape, output, unitless}
+use Rattle.model.specs.Refusals.{Check, Silent, First, Flat, AtLowest, shape, output, unitless}
 
 -- ---- put together
--- a rule that says something decides
-pub first-says : (R : Rule) (rest : List Rule) (n p : ℕ) → R n p → First (R ∷ rest) (some (n, p))
+-- a check that says something decides
+pub first-says : (R : Check) (rest : List Check) (n p : ℕ) → R n p → First (R ∷ rest) (some (n, p))
 unfolding First
 first-says R rest n p h = inl h
 
--- a rule that says nothing leaves it to the rest
-pub first-silent : (R : Rule) (rest : List Rule) (x : Option (ℕ × ℕ)) → Silent R → First rest x → First (R ∷ rest) x
+-- a check that says nothing leaves it to the rest
+pub first-silent : (R : Check) (rest : List Check) (x : Option (ℕ × ℕ)) → Silent R → First rest x → First (R ∷ rest) x
 unfolding First
 first-silent R rest none s h = (s, h)
 first-silent R rest (some r) s h = inr (s, h)
 
--- no rule, no refusal
+-- no check, no refusal
 pub first-end : First [] none
 unfolding First
 first-end = tt
 
 -- what the front says is said, whatever follows
-pub first-hit : (front back : List Rule) (r : ℕ × ℕ) → First front (some r) → First (front ++ back) (some r)
+pub first-hit : (front back : List Check) (r : ℕ × ℕ) → First front (some r) → First (front ++ back) (some r)
 unfolding First
 first-hit [] back r h = absurd h
 first-hit (R ∷ front) back r h = ⊎-elim (λ k. inl k) (λ k. inr (k .0, first-hit front back r (k .1))) h
 
 -- where the front says nothing, the back decides
-pub first-pass : (front back : List Rule) (x : Option (ℕ × ℕ)) → First front none → First back x → First (front ++ back) x
+pub first-pass : (front back : List Check) (x : Option (ℕ × ℕ)) → First front none → First back x → First (front ++ back) x
 unfolding First
 first-pass [] back x a b = b
 first-pass (R ∷ front) back x a b = first-silent R (front ++ back) x (a .0) (first-pass front back x (a .1) b)
 
 -- ---- taken apart
 -- both say nothing
-pub first-none-append : (front back : List Rule) → First (front ++ back) none → First front none × First back none
+pub first-none-append : (front back : List Check) → First (front ++ back) none → First front none × First back none
 unfolding First
 first-none-append [] back h = (tt, h)
 first-none-append (R ∷ front) back h = let k = first-none-append front back (h .1) in ((h .0, k .0), k .1)
 
--- a rule may be put in another's place that says the same
-pub first-head : (R S : Rule) (rest : List Rule) (x : Option (ℕ × ℕ)) → ((n p : ℕ) → R n p → S n p) → ((n p : ℕ) → S n p → R n p)
+-- a check may be put in another's place that says the same
+pub first-head : (R S : Check) (rest : List Check) (x : Option (ℕ × ℕ)) → ((n p : ℕ) → R n p → S n p) → ((n p : ℕ) → S n p → R n p)
     → First (R ∷ rest) x → First (S ∷ rest) x
 unfolding First
 first-head R S rest none there back h = (λ n p s. h .0 n p (back n p s), h .1)
@@ -55,12 +55,12 @@ first-head R S rest (some r) there back h =
     ⊎-elim (λ k. inl (there (r .0) (r .1) k)) (λ k. inr (λ n p s. k .0 n p (back n p s), k .1)) h
 
 -- the rest may be put in another rest's place that says the same
-pub first-rest : (R : Rule) (rest other : List Rule) (x : Option (ℕ × ℕ)) → (First rest x → First other x) → First (R ∷ rest) x → First (R ∷ other) x
+pub first-rest : (R : Check) (rest other : List Check) (x : Option (ℕ × ℕ)) → (First rest x → First other x) → First (R ∷ rest) x → First (R ∷ other) x
 unfolding First
 first-rest R rest other none f h = (h .0, f (h .1))
 first-rest R rest other (some r) f h = ⊎-elim (λ k. inl k) (λ k. inr (k .0, f (k .1))) h
 
--- ---- each kind of rule
+-- ---- each kind of check
 -- silent where P does not hold, and only there; it says its number and place 0 where P holds
 pub flat-silent : (number : ℕ) (P : Type 0) → (P → ⊥) → Silent (Flat number P)
 flat-silent number P not n p h = not (h .why)
@@ -95,20 +95,20 @@ pub at-lowest-none : (number among : ℕ) (P : ℕ → Type 0) → Silent (AtLow
 at-lowest-none number among P s = no-lowest-none P among (λ i low. s number i (at-lowest-says number among P i low))
 
 -- ---- which numbers are said
--- none of the rules says this number
-unfoldable pub Never : ℕ → List Rule → Type 0
+-- none of the checks says this number
+unfoldable pub Never : ℕ → List Check → Type 0
 Never number [] = Unit {0}
 Never number (R ∷ rest) = ((place : ℕ) → R number place → ⊥) × Never number rest
 
 -- so it is not the number given
-pub first-never : (number : ℕ) (rules : List Rule) (r : ℕ × ℕ) → Never number rules → First rules (some r) → r .0 ≡ number → ⊥
+pub first-never : (number : ℕ) (checks : List Check) (r : ℕ × ℕ) → Never number checks → First checks (some r) → r .0 ≡ number → ⊥
 unfolding First Never
 first-never number [] r n h e = h
 first-never number (R ∷ rest) r n h e =
     ⊎-elim (λ k. n .0 (r .1) (subst (λ (m : ℕ). R m (r .1)) e k)) (λ k. first-never number rest r (n .1) (k .1) e) h
 
--- nor do rules of two such lists
-pub never-append : (number : ℕ) (front back : List Rule) → Never number front → Never number back → Never number (front ++ back)
+-- nor do checks of two such lists
+pub never-append : (number : ℕ) (front back : List Check) → Never number front → Never number back → Never number (front ++ back)
 unfolding Never
 never-append number [] back a b = b
 never-append number (R ∷ front) back a b = (a .0, never-append number front back (a .1) b)

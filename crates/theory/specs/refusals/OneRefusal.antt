@@ -4,22 +4,22 @@ use mathlib.Core.Logic.{⊎-elim}
 use mathlib.Core.Option.{Option, none, some}
 use mathlib.Core.List.{List, [], _∷_, _++_}
 use Prim.Native.Nat.{ℕ, _<_}
-use Rattle.laws.specs.Lowest.{lowest-one}
+use Rattle.maths.specs.Lowest.{lowest-one}
 use Rattle.model.specs.Graph.{Graph, many, edgesOf}
-use Rattle.model.specs.Refusals.{Rule, First, Flat, AtLowest, Large, Uneven, BadOperation, BadEdge, NoUnit, shape, output, unitless}
+use Rattle.model.specs.Refusals.{Check, First, Flat, AtLowest, Large, Uneven, BadOperation, BadEdge, NoUnit, shape, output, unitless}
 
 -- ---- one answer
--- a rule says one thing at most
-pub record One (R : Rule) : Type 0 where
+-- a check says one thing at most
+pub record One (R : Check) : Type 0 where
   pub same : (n p m q : ℕ) → R n p → R m q → _≡_ {A = ℕ × ℕ} (n, p) (m, q)
 
 -- each of them does
-unfoldable pub Ones : List Rule → Type 0
+unfoldable pub Ones : List Check → Type 0
 Ones [] = Unit {0}
 Ones (R ∷ rest) = One R × Ones rest
 
--- what the first rule that applies says is one thing
-pub first-one : (rules : List Rule) → Ones rules → (x y : Option (ℕ × ℕ)) → First rules x → First rules y → x ≡ y
+-- what the first check that applies says is one thing
+pub first-one : (checks : List Check) → Ones checks → (x y : Option (ℕ × ℕ)) → First checks x → First checks y → x ≡ y
 unfolding First Ones
 first-one [] o none none a b = refl
 first-one [] o none (some s) a b = absurd b
@@ -43,18 +43,18 @@ flat-one number P = record { same = λ n p m q a b. rw (a .is, a .nowhere, b .is
 pub at-lowest-one : (number among : ℕ) (P : ℕ → Type 0) → One (AtLowest number among P)
 at-lowest-one number among P = record { same = λ n p m q a b. rw (a .is, b .is, lowest-one P among p q (a .lowest) (b .lowest)) }
 
--- rules of two lists in one
-pub ones-append : (front back : List Rule) → Ones front → Ones back → Ones (front ++ back)
+-- checks of two lists in one
+pub ones-append : (front back : List Check) → Ones front → Ones back → Ones (front ++ back)
 unfolding Ones
 ones-append [] back a b = b
 ones-append (R ∷ front) back a b = (a .0, ones-append front back (a .1) b)
 
--- a list of one rule
-pub ones-single : (R : Rule) → One R → Ones (R ∷ [])
+-- a list of one check
+pub ones-single : (R : Check) → One R → Ones (R ∷ [])
 unfolding Ones
 ones-single R o = (o, tt)
 
--- each row of the table that `graph` checks says one thing at most
+-- each row of the table that `admission` checks says one thing at most
 pub shape-ones : (g : Graph) (Own : Type 0) → Ones (shape g Own)
 unfolding Ones
 shape-ones g Own = (

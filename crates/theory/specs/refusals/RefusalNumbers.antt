@@ -4,8 +4,8 @@ use mathlib.Core.Option.{Option, none, some}
 use mathlib.Core.List.{List, [], _∷_}
 use Prim.Native.Nat.{ℕ}
 use lib.ListN.{getD}
-use Rattle.laws.specs.Cases.{none-some}
-use Rattle.model.specs.Refusals.{Rule, First}
+use Rattle.maths.specs.Cases.{none-some}
+use Rattle.model.specs.Refusals.{Check, First}
 use Rattle.model.specs.Answers.{numbered, refusalOf}
 use Rattle.model.specs.declared.Refusal.{Refusal}
 use Rattle.model.specs.declared.Refusal.the-variants.{TooLarge, Uneven, Operation, Edge, ShortOutput, NoUnit, Cycle, BoundTooLarge, BoundTooSmall, TooManyWindows, Step, Channel, Range}
@@ -68,9 +68,9 @@ pub refused-passes : (why : Refusal) {P : Type 0} → refusalOf (Refused why) �
 refused-passes why e = absurd (none-some (sym e))
 
 -- what is said of an answer is said of the same answer in other words
-pub first-told : (rules : List Rule) {a b : Answer} → a ≡ b → First rules (refusalOf a) → First rules (refusalOf b)
-first-told rules e h = subst (λ (x : Answer). First rules (refusalOf x)) e h
+pub first-told : (checks : List Check) {a b : Answer} → a ≡ b → First checks (refusalOf a) → First checks (refusalOf b)
+first-told checks e h = subst (λ (x : Answer). First checks (refusalOf x)) e h
 
--- a question whose rules each say one thing has one answer
-pub answer-one : (rules : List Rule) → Ones rules → (a b : Answer) → First rules (refusalOf a) → First rules (refusalOf b) → a ≡ b
-answer-one rules ones a b h k = refusal-one a b (first-one rules ones (refusalOf a) (refusalOf b) h k)
+-- a question whose checks each say one thing has one answer
+pub answer-one : (checks : List Check) → Ones checks → (a b : Answer) → First checks (refusalOf a) → First checks (refusalOf b) → a ≡ b
+answer-one checks ones a b h k = refusal-one a b (first-one checks ones (refusalOf a) (refusalOf b) h k)

@@ -6,10 +6,10 @@ use mathlib.Core.List.{List, _++_}
 use Prim.Native.Nat.{ℕ}
 use lib.Dec.{eqb}
 use borrow.Author.Tests.{ne-eqb}
-use Rattle.laws.specs.Rows.{over}
+use Rattle.maths.specs.Rows.{over}
 use Rattle.model.specs.Order.{Order}
 use Rattle.model.specs.Cycle.{Shown}
-use Rattle.model.specs.Refusals.{Rule, First}
+use Rattle.model.specs.Refusals.{Check, First}
 use Rattle.model.specs.Answers.{CycleWritten, RowAfter, Fills, Answered, choose}
 use Rattle.theory.specs.refusals.OneRefusal.{Ones, first-one}
 use Rattle.theory.specs.refusals.FirstRefusal.{first-hit, first-pass, Never, first-never}
@@ -39,7 +39,7 @@ row-one o before Given none a b one same x y = same x y
 row-one o before Given (some r) a b one same x y = chosen-one o before a b one (eqb (r .0) 7) x y
 
 -- any two outcomes that the frame allows are equal: the refusal, and the row
-pub answered-one : (o : Order) (checks : List Rule) (before : List ℕ) (Given : List ℕ → Type 0) → Ones checks
+pub answered-one : (o : Order) (checks : List Check) (before : List ℕ) (Given : List ℕ → Type 0) → Ones checks
     → ((c d : List ℕ) → Shown o c → Shown o d → c ≡ d) → (x y : Option (ℕ × ℕ)) (a b : List ℕ) → (Given a → Given b → a ≡ b)
     → Answered o checks before Given x a → Answered o checks before Given y b → (x ≡ y) × (a ≡ b)
 answered-one o checks before Given ones one x y a b same h k =
@@ -74,7 +74,7 @@ unfolding RowAfter
 row-refused o before Given Other r after h = h
 
 -- refused is refused, whatever an answer would have given
-pub answered-again : (o : Order) (checks : List Rule) (before : List ℕ) (Given Other : List ℕ → Type 0) (r : ℕ × ℕ) (after : List ℕ)
+pub answered-again : (o : Order) (checks : List Check) (before : List ℕ) (Given Other : List ℕ → Type 0) (r : ℕ × ℕ) (after : List ℕ)
     → Answered o checks before Given (some r) after → Answered o checks before Other (some r) after
 answered-again o checks before Given Other r after h = record {
   first = h .first;
@@ -82,7 +82,7 @@ answered-again o checks before Given Other r after h = record {
 }
 
 -- refused by the first checks: refused, whatever follows
-pub answered-refused : (o : Order) (front back : List Rule) (before : List ℕ) (Given Other : List ℕ → Type 0) (r : ℕ × ℕ) (after : List ℕ)
+pub answered-refused : (o : Order) (front back : List Check) (before : List ℕ) (Given Other : List ℕ → Type 0) (r : ℕ × ℕ) (after : List ℕ)
     → Answered o front before Given (some r) after → Answered o (front ++ back) before Other (some r) after
 answered-refused o front back before Given Other r after h = record {
   first = first-hit front back r (h .first);
@@ -90,7 +90,7 @@ answered-refused o front back before Given Other r after h = record {
 }
 
 -- refused by checks that name no cycle: the row stays
-pub refused-stays : (o : Order) (checks : List Rule) (before : List ℕ) (Given : List ℕ → Type 0) (r : ℕ × ℕ) (after : List ℕ)
+pub refused-stays : (o : Order) (checks : List Check) (before : List ℕ) (Given : List ℕ → Type 0) (r : ℕ × ℕ) (after : List ℕ)
     → Never 7 checks → First checks (some r) → after ≡ before → Answered o checks before Given (some r) after
 refused-stays o checks before Given r after never h e = record {
   first = h;
@@ -98,7 +98,7 @@ refused-stays o checks before Given r after never h e = record {
 }
 
 -- the first checks passed and left the row, and the others decide
-pub answered-passed : (o : Order) (front back : List Rule) (before : List ℕ) (Given : List ℕ → Type 0) (x : Option (ℕ × ℕ)) (after : List ℕ)
+pub answered-passed : (o : Order) (front back : List Check) (before : List ℕ) (Given : List ℕ → Type 0) (x : Option (ℕ × ℕ)) (after : List ℕ)
     → First front none → Answered o back before Given x after → Answered o (front ++ back) before Given x after
 answered-passed o front back before Given x after h k = record {
   first = first-pass front back x h (k .first);

@@ -9,13 +9,13 @@ use native.Mathlib.Omega.{arith}
 use borrow.Author.Tests.{eqb-false, ne-eqb}
 use lib.Dec.{eqb}
 use lib.ListN.{length}
-use Rattle.laws.specs.Cases.{at-most, less, equal}
-use Rattle.laws.specs.Rows.{at}
-use Rattle.laws.specs.Lowest.{None, Lowest}
+use Rattle.maths.specs.Cases.{at-most, less, equal}
+use Rattle.maths.specs.Rows.{at}
+use Rattle.maths.specs.Lowest.{None, Lowest}
 use Rattle.model.specs.Limits as limit
 use Rattle.model.specs.Order.{Order, Closed, turned}
 use Rattle.model.specs.Graph.{Graph, Sound, order, many, edgesOf, delay, typeOf}
-use Rattle.model.specs.Refusals.{Rule, First, Flat, Large, Uneven, BadOperation, BadEdge, NoUnit, shape, output, unitless}
+use Rattle.model.specs.Refusals.{Check, First, Flat, Large, Uneven, BadOperation, BadEdge, NoUnit, shape, output, unitless}
 use Rattle.theory.specs.refusals.FirstRefusal.{at-lowest-none, at-lowest-says, at-lowest-silent, first-head, first-rest, flat-not, flat-says, flat-silent}
 
 -- ---- what keeps a graph from being refused
@@ -115,7 +115,7 @@ flat-same : {number : ℕ} {P Q : Type 0} → (P → Q) → (n p : ℕ) → Flat
 flat-same f n p h = record { is = h .is; nowhere = h .nowhere; why = f (h .why) }
 
 -- a mismatch of the question's own rows may be said in other words, whatever follows
-pub shape-own-then : (g : Graph) (P Q : Type 0) → (P → Q) → (Q → P) → (rest : List Rule) (x : Option (ℕ × ℕ))
+pub shape-own-then : (g : Graph) (P Q : Type 0) → (P → Q) → (Q → P) → (rest : List Check) (x : Option (ℕ × ℕ))
     → First (shape g P ++ rest) x → First (shape g Q ++ rest) x
 shape-own-then g P Q there back rest x h =
     first-rest _ _ _ x (first-head _ _ _ x (flat-same (uneven-own g there)) (flat-same (uneven-own g back))) h
@@ -126,7 +126,7 @@ shape-own g P Q there back x h = shape-own-then g P Q there back [] x h
 
 -- where the question's own rows are one whose length must be another's: a test may tell that it is not, and where nothing is said it is
 module _ (g : Graph) (a b : ℕ) where
-  pub shape-test-then : (rest : List Rule) (x : Option (ℕ × ℕ)) → First (shape g (eqb a b ≡ false) ++ rest) x → First (shape g (a ≡ b → ⊥) ++ rest) x
+  pub shape-test-then : (rest : List Check) (x : Option (ℕ × ℕ)) → First (shape g (eqb a b ≡ false) ++ rest) x → First (shape g (a ≡ b → ⊥) ++ rest) x
   shape-test-then rest x h = shape-own-then g (eqb a b ≡ false) (a ≡ b → ⊥) (eqb-false a b) (ne-eqb a b) rest x h
 
   pub own-equal : First (shape g (a ≡ b → ⊥)) none → a ≡ b

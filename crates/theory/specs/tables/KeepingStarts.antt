@@ -3,7 +3,7 @@ use mathlib.Core.Path.{_≡_, ap}
 use mathlib.Core.List.{List}
 use Prim.Native.Nat.{ℕ, _<_}
 use native.Mathlib.Omega.{arith}
-use Rattle.laws.specs.Rows.{at}
+use Rattle.maths.specs.Rows.{at}
 use Rattle.model.specs.Order.{Order, size, source, target, Closed, Edge, Walk, one, more, Cyclic}
 use Rattle.model.specs.Tables.{Keeps, Within, Earliest, Latest}
 

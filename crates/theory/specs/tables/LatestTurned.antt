@@ -4,11 +4,11 @@ use mathlib.Core.List.{List}
 use Prim.Native.Nat.{ℕ, _+_, _-_, _≤_, _<_}
 use native.Mathlib.Omega.{arith}
 use lib.ListN.{length}
-use Rattle.laws.specs.Rows.{at, tabulate, tabulate-at}
+use Rattle.maths.specs.Rows.{at, tabulate, tabulate-at}
 use Rattle.model.specs.Order.{Order, turned, size, edgeCount, weight, source, target, Closed}
 use Rattle.model.specs.Tables.{Keeps, Within, Earliest, Latest, Latency}
 use Rattle.model.specs.Refusals.{Late}
-use Rattle.theory.specs.tables.OneTable.{earliest-one}
+use Rattle.theory.specs.tables.OneTable.{earliest-starts-one}
 use Rattle.theory.specs.tables.KeepingStarts.{within-same}
 
 -- ---- the mirror: what keeps the order within a bound, read from the bound backwards, keeps the order turned round
@@ -63,7 +63,7 @@ latency-within o t l bound h up = record { ends = λ i m. omega (arith, h .withi
 -- such a bound is not below the ASAP latency: the latency of any earliest starts is that of these
 pub not-late : (o : Order) → Closed o → (early : List ℕ) → Earliest o early → (l bound : ℕ) → Latency o early l → l ≤ bound → Late o bound → ⊥
 not-late o closed early is l bound ends up x =
-    let same = earliest-one o early (x .asap) is (x .earliest) in
+    let same = earliest-starts-one o early (x .asap) is (x .earliest) in
     let inside = within-same o closed early (x .asap) same bound (latency-within o early l bound ends up) in
     absurd (omega (arith, x .below, x .ends .least bound inside))
 

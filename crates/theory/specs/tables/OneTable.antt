@@ -4,7 +4,7 @@ use mathlib.Core.List.{List}
 use Prim.Native.Nat.{ℕ, _-_, _<_}
 use native.Mathlib.Omega.{arith}
 use lib.ListN.{length}
-use Rattle.laws.specs.Rows.{at, same-row}
+use Rattle.maths.specs.Rows.{at, same-row}
 use Rattle.model.specs.Order.{Order, size}
 use Rattle.model.specs.Tables.{Latency, Earliest, Latest, Asap, Alap, Mobility}
 use Rattle.model.specs.Graph.{Graph, order, many}
@@ -15,11 +15,11 @@ module _ {o : Order} {t : List ℕ} where
   latency-one a b = omega (arith, a .least _ (b .within), b .least _ (a .within))
 
 -- ---- one value
-pub earliest-one : (o : Order) (s t : List ℕ) → Earliest o s → Earliest o t → (i : ℕ) → i < size o → at s i ≡ at t i
-earliest-one o s t a b i l = omega (arith, a .least t (b .keeps) i l, b .least s (a .keeps) i l)
+pub earliest-starts-one : (o : Order) (s t : List ℕ) → Earliest o s → Earliest o t → (i : ℕ) → i < size o → at s i ≡ at t i
+earliest-starts-one o s t a b i l = omega (arith, a .least t (b .keeps) i l, b .least s (a .keeps) i l)
 
-pub latest-one : (o : Order) (bound : ℕ) (s t : List ℕ) → Latest o bound s → Latest o bound t → (i : ℕ) → i < size o → at s i ≡ at t i
-latest-one o bound s t a b i l =
+pub latest-starts-one : (o : Order) (bound : ℕ) (s t : List ℕ) → Latest o bound s → Latest o bound t → (i : ℕ) → i < size o → at s i ≡ at t i
+latest-starts-one o bound s t a b i l =
     omega (arith, a .greatest t (b .keeps) (b .within) i l, b .greatest s (a .keeps) (a .within) i l)
 
 -- rows of n entries that agree below n are one row
@@ -27,11 +27,11 @@ rows-one : (n : ℕ) (s t : List ℕ) → length s ≡ n → length t ≡ n → 
 rows-one n s t a b each = same-row s t (a ∙ sym b) (λ i l. each i (omega arith))
 
 pub asap-one : (g : Graph) (s t : List ℕ) → Asap g s → Asap g t → s ≡ t
-asap-one g s t a b = rows-one (many g) s t (a .long) (b .long) (earliest-one (order g) s t (a .earliest) (b .earliest))
+asap-one g s t a b = rows-one (many g) s t (a .long) (b .long) (earliest-starts-one (order g) s t (a .earliest) (b .earliest))
 
 pub alap-one : (g : Graph) (bound : ℕ) (s t : List ℕ) → Alap g bound s → Alap g bound t → s ≡ t
 alap-one g bound s t a b =
-    rows-one (many g) s t (a .long) (b .long) (latest-one (order g) bound s t (a .latest) (b .latest))
+    rows-one (many g) s t (a .long) (b .long) (latest-starts-one (order g) bound s t (a .latest) (b .latest))
 
 pub mobility-one : (g : Graph) (bound : ℕ) (m k : List ℕ) → Mobility g bound m → Mobility g bound k → m ≡ k
 mobility-one g bound m k a b =

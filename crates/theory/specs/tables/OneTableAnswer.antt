@@ -6,7 +6,7 @@ use lib.ListN.{length}
 use Rattle.model.specs.Order.{Order}
 use Rattle.model.specs.Graph.{Graph, order}
 use Rattle.model.specs.Tables.{Asap, Alap, Mobility}
-use Rattle.model.specs.Refusals.{Rule, shape, output, cyclic, large-bound, late-bound, asapChecks, alapChecks}
+use Rattle.model.specs.Refusals.{Check, shape, output, cyclic, large-bound, late-bound, asapChecks, alapChecks}
 use Rattle.model.specs.Answers.{refusalOf, Fills, Answered, AsapAnswer, AlapAnswer, MobilityAnswer}
 use Rattle.model.specs.declared.Answer.{Answer}
 use Rattle.theory.specs.cycle.OneShown.{shown-one}
@@ -28,7 +28,7 @@ alap-ones g bound room =
     (ones-append (large-bound bound) (late-bound (order g) bound) (large-bound-ones bound) (late-bound-ones (order g) bound))
 
 -- ---- a question that fills a row with the one row that `Is`
-filled-one : (o : Order) (checks : List Rule) (before : List ℕ) (Is : List ℕ → Type 0) → Ones checks → ((s t : List ℕ) → Is s → Is t → s ≡ t)
+filled-one : (o : Order) (checks : List Check) (before : List ℕ) (Is : List ℕ → Type 0) → Ones checks → ((s t : List ℕ) → Is s → Is t → s ≡ t)
     → (r r′ : Answer) (after after′ : List ℕ) → Answered o checks before (Fills Is before) (refusalOf r) after
     → Answered o checks before (Fills Is before) (refusalOf r′) after′ → (r ≡ r′) × (after ≡ after′)
 filled-one o checks before Is ones one r r′ after after′ h k =

@@ -5,15 +5,15 @@ use mathlib.Core.List.{List}
 use Prim.Native.Nat.{ℕ, _+_, _≤_, _<_}
 use native.Mathlib.Omega.{arith}
 use lib.ListN.{length}
-use Rattle.laws.specs.Cases.{at-most, none-some, some-one}
-use Rattle.laws.specs.Rows.{at, same-row}
-use Rattle.laws.specs.Lowest.{None, lowest-one}
+use Rattle.maths.specs.Cases.{at-most, none-some, some-one}
+use Rattle.maths.specs.Rows.{at, same-row}
+use Rattle.maths.specs.Lowest.{None, lowest-one}
 use Rattle.model.specs.Limits as limit
 use Rattle.model.specs.Graph.{Graph, order, many, edgesOf, delay}
 use Rattle.model.specs.Answers.{refusalOf}
 use Rattle.model.specs.Use.{Lawful}
 use Rattle.model.specs.Faults as fault
-use Rattle.model.specs.Verdicts.{refusalIn, checkChecks, Finds, Checked, peakChecks, Counts, PeakAnswer}
+use Rattle.model.specs.Verdicts.{refusalInFinding, checkChecks, Finds, Checked, peakChecks, Counts, PeakAnswer}
 use Rattle.model.specs.declared.Finding as finding
 use Rattle.model.specs.declared.Finding.the-variants as found
 use Rattle.model.specs.declared.Verdict.{Verdict}
@@ -74,7 +74,7 @@ module _ (g : Graph) (units : List ℕ) (bound : ℕ) (t : List ℕ) where
       ap₂ found.OverUse step kind
 
   -- what is found is one finding
-  pub finds-one : (f h : finding.Finding) → refusalIn f ≡ refusalIn h → Finds g units bound t f → Finds g units bound t h → f ≡ h
+  pub finds-one : (f h : finding.Finding) → refusalInFinding f ≡ refusalInFinding h → Finds g units bound t f → Finds g units bound t h → f ≡ h
   unfolding Finds
   finds-one found.Lawful found.Lawful e a b = refl
   finds-one found.Lawful (found.Untimely i) e a b = absurd (lawful-timely a i (b .inside) (b .holds))

@@ -7,12 +7,12 @@ use Prim.Native.Nat.{ℕ, _+_, _≤_, _<_}
 use native.Mathlib.Omega.{arith}
 use borrow.Author.Tests.{eq-eqb, eqb-true, le-leb, leb-true, lt-ltb, ltb-true}
 use lib.Dec.{eqb, leb, ltb}
-use Rattle.laws.specs.Rows.{at}
-use Rattle.laws.specs.Tests.{two, clash, off, and-true, and-left, and-right}
-use Rattle.laws.specs.Lowest.{None}
-use Rattle.laws.specs.Greatest.{Greatest, greatest}
-use Rattle.laws.specs.Count.{count, count-le, count-none}
-use Rattle.laws.specs.Counting.{count-mono}
+use Rattle.maths.specs.Rows.{at}
+use Rattle.maths.specs.Tests.{two, clash, off, and-true, and-left, and-right}
+use Rattle.maths.specs.Lowest.{None}
+use Rattle.maths.specs.Greatest.{Greatest, greatest}
+use Rattle.maths.specs.Count.{count, count-le, count-none}
+use Rattle.maths.specs.Counting.{count-mono}
 use Rattle.model.specs.Graph.{Graph, many, busyTime, typeOf}
 use Rattle.model.specs.Use.{runs, running, Peak}
 

@@ -7,9 +7,9 @@ use Prim.Native.Nat.{ℕ, _+_, _≤_, _<_}
 use native.Mathlib.Omega.{arith}
 use borrow.Author.Tests.{eq-eqb, ne-eqb, le-leb, lt-leb, lt-ltb, le-ltb}
 use lib.Dec.{leb, ltb, eqb}
-use Rattle.laws.specs.Cases.{lt-or-le}
-use Rattle.laws.specs.Rows.{at}
-use Rattle.laws.specs.Tests.{_and_, and-true, and-left-false, and-right-false}
+use Rattle.maths.specs.Cases.{lt-or-le}
+use Rattle.maths.specs.Rows.{at}
+use Rattle.maths.specs.Tests.{_and_, and-true, and-left-false, and-right-false}
 use Rattle.model.specs.Graph.{Graph, typeOf, busyTime}
 use Rattle.model.specs.Use.{runs}
 

@@ -1,6 +1,6 @@
 -- The table reaches so far exactly where `first` is at most its length, and `count` at most what is left from there.
 use native.Mathlib.Omega.{arith}
-use Rattle.laws.specs.Cases.{tells-yes, tells-no}
+use Rattle.maths.specs.Cases.{tells-yes, tells-no}
 use Rattle.views.proofs.reaches.Statement.{statement}
 use Rattle.views.proofs.reaches.Tie as tie
 

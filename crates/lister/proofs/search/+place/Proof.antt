@@ -14,7 +14,7 @@ use Rattle.lister.proofs.search.place.Kinds as place-kinds
 use Rattle.lister.proofs.search.+place.Lts-place as place-lts
 use Rattle.lister.proofs.search.begin.Reads as begin-reads
 use Rattle.lister.proofs.search.fitting.Reads as fitting-reads
-use Rattle.lister.proofs.search.stays.Reads as stays-reads
+use Rattle.lister.proofs.search.stays_equal.Reads as stays-reads
 use Rattle.lister.proofs.search.+place.{statement}
 use Rattle.lister.proofs.search.+place.Tie.{close}
 
@@ -29,11 +29,11 @@ abbrev place-below : ℕ → In 10 place-kinds.ps
 place-below t = and 10 place-kinds.ps (falls 10 place-kinds.ps _<_ μ-place t) place.Pre
 
 abbrev Inv-loop : place-lts.InvT-loop
-Inv-loop delays types from to links units early late after starts₀ i tight end asked start t₀ starts t =
-    Loop (job delays types from to units early late after) starts₀ i tight starts t
+Inv-loop delays types from to links units early late after starts₀ i equal end asked start t₀ starts t =
+    Loop (job delays types from to units early late after) starts₀ i equal starts t
 
 abbrev μ-loop : place-lts.MeasureT-loop
-μ-loop delays types from to links units early late after starts₀ i tight end asked start t₀ starts t = end + 1 - t
+μ-loop delays types from to links units early late after starts₀ i equal end asked start t₀ starts t = end + 1 - t
 
 -- what the functions called ask and tell, and `place` of fewer unplaced
 abbrev claims : ℕ → place-lts.Claims
@@ -79,20 +79,20 @@ module _ (t : ℕ) where
   loop-holds : place-lts.Need-loop-holds (claims t) (place-at t) place.Post Inv-loop μ-loop
   loop-holds c = loop-begins (omega (arith, c .before .before .before .before .before .before .before .before .before .before .before .before .before .before .before .before .pre .1 .0 .inside, c .before .before .before .before .before .before .before .before .if1 .left)) (c .before .before .before .before .before .before .before .before .before .before .before .before .before .before .before .before .pre .1 .0) (c .before .before .before .before .begin .ensures) (c .before .before .fitting .ensures) (c .before .before .fitting .kept .1 .1 .1 .1 .1 .1 .0)
 
-  stays-requires : place-lts.Need-stays-requires (claims t) (place-at t) place.Post Inv-loop μ-loop
-  stays-requires c κs = search needs
+  stays-equal-requires : place-lts.Need-stays-equal-requires (claims t) (place-at t) place.Post Inv-loop μ-loop
+  stays-equal-requires c κs = search needs
 
   add-place : place-lts.Need-add-place (claims t) (place-at t) place.Post Inv-loop μ-loop
   add-place c = search needs
 
   place-requires : place-lts.Need-place-requires (claims t) (place-at t) place.Post Inv-loop μ-loop
-  place-requires c κs = (omega (arith, c .before .before .before .before .before .before .before .before .before .before .before .before .before .before .before .before .before .before .before .before .pre .0, c .before .before .before .loop .inv .inside), (loop-ready (c .before .before .before .loop .inv) (c .before .before .loop-test .taken) (c .before .stays .ensures), c .before .before .before .before .before .before .before .before .before .before .before .before .before .before .before .before .before .before .before .before .pre .1 .1))
+  place-requires c κs = (omega (arith, c .before .before .before .before .before .before .before .before .before .before .before .before .before .before .before .before .before .before .before .before .pre .0, c .before .before .before .loop .inv .inside), (loop-ready (c .before .before .before .loop .inv) (c .before .before .loop-test .taken) (c .before .stays-equal .ensures), c .before .before .before .before .before .before .before .before .before .before .before .before .before .before .before .before .before .before .before .before .pre .1 .1))
 
   same-length : place-lts.Need-same-length (claims t) (place-at t) place.Post Inv-loop μ-loop
   same-length c = c .before .before .before .place .kept .1 .1 .1 .1 .1 .1 .1 .1 .1 .0 ∙ c .before .before .before .before .before .before .before .loop .inv .long ∙ c .before .before .before .before .before .before .before .before .before .before .fitting .kept .1 .1 .1 .1 .1 .1 .0
 
   returns-2 : place-lts.Need-returns-2 (claims t) (place-at t) place.Post Inv-loop μ-loop
-  returns-2 c = searched-as (c .before .before .before .before .before .before .before .before .before .before .fitting .ensures .kept) (loop-found (c .before .before .before .before .before .before .before .loop .inv) (c .before .before .before .before .before .before .loop-test .taken) (c .before .before .before .before .before .stays .ensures) (c .before .before .before .place .ensures) (c .if2 .taken))
+  returns-2 c = searched-as (c .before .before .before .before .before .before .before .before .before .before .fitting .ensures .kept) (loop-found (c .before .before .before .before .before .before .before .loop .inv) (c .before .before .before .before .before .before .loop-test .taken) (c .before .before .before .before .before .stays-equal .ensures) (c .before .before .before .place .ensures) (c .if2 .taken))
 
   add-fitting : place-lts.Need-add-fitting (claims t) (place-at t) place.Post Inv-loop μ-loop
   add-fitting c = omega (arith, c .before .before .before .before .before .before .before .loop-test .taken, c .before .before .before .before .before .before .before .before .loop .inv .ready .sized .few _ (c .before .before .before .before .before .before .before .before .loop .inv .inside))
@@ -104,7 +104,7 @@ module _ (t : ℕ) where
   loop-less c = omega (arith, c .before .before .before .before .before .before .before .before .before .before .loop-test .taken, c .before .before .fitting2 .ensures .from)
 
   loop-again : place-lts.Need-loop-again (claims t) (place-at t) place.Post Inv-loop μ-loop
-  loop-again c = loop-more (c .before .before .before .before .before .before .before .before .before .before .before .loop .inv) (c .before .before .before .before .before .before .before .before .before .before .loop-test .taken) (c .before .before .before .before .before .before .before .before .before .stays .ensures) (c .before .before .before .before .before .before .before .place .ensures) (c .before .before .before .before .if2 .left) (c .before .before .before .before .before .before .before .place .kept .1 .1 .1 .1 .1 .1 .1 .1 .1 .0) (c .before .before .fitting2 .ensures) (c .before .before .fitting2 .kept .1 .1 .1 .1 .1 .1 .0)
+  loop-again c = loop-more (c .before .before .before .before .before .before .before .before .before .before .before .loop .inv) (c .before .before .before .before .before .before .before .before .before .before .loop-test .taken) (c .before .before .before .before .before .before .before .before .before .stays-equal .ensures) (c .before .before .before .before .before .before .before .place .ensures) (c .before .before .before .before .if2 .left) (c .before .before .before .before .before .before .before .place .kept .1 .1 .1 .1 .1 .1 .1 .1 .1 .0) (c .before .before .fitting2 .ensures) (c .before .before .fitting2 .kept .1 .1 .1 .1 .1 .1 .0)
 
   same-length-2 : place-lts.Need-same-length-2 (claims t) (place-at t) place.Post Inv-loop μ-loop
   same-length-2 c = c .before .loop .inv .long ∙ c .before .before .before .before .fitting .kept .1 .1 .1 .1 .1 .1 .0
@@ -128,7 +128,7 @@ pub +place-spec : {M : Type 1} → statement M
     (begin-requires t)
     (fitting-requires t)
     (loop-holds t)
-    (stays-requires t)
+    (stays-equal-requires t)
     (add-place t)
     (place-requires t)
     (same-length t)

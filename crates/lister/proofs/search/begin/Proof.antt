@@ -1,6 +1,6 @@
--- `search::begin` meets its contract: the greater of the two where the row is tight, else the window's first.
+-- `search::begin` meets its contract: the greater of the two where the row is equal, else the window's first.
 use borrow.Author.Needs.{needs}
-use Rattle.laws.specs.Tests.{clash}
+use Rattle.maths.specs.Tests.{clash}
 use Rattle.lister.proofs.search.begin.Statement.{statement}
 use Rattle.lister.proofs.search.begin.Tie as tie
 

@@ -1,0 +1,40 @@
+// Refusal 7: every operation is placed as early as it can start, or the cycle that keeps some from starting is shown.
+use model::Answer;
+use model::Refusal;
+use model::limits::OPERATIONS;
+ghost use Prim.Native.Nat.{_≤_};
+ghost use lib.ListN.{length};
+ghost use Rattle.model.specs.Order.{ordered, Closed};
+ghost use Rattle.model.specs.Refusals.{First, cyclic};
+ghost use Rattle.model.specs.Answers.{refusalOf};
+ghost use Rattle.admission.specs.OrderAdmitted.{OrderAdmitted};
+
+// The earliest starts go to `starts`; where a cycle keeps some operation from starting, the cycle shown goes to `out`, which is else left.
+pub fn place(
+    delays: &[u8],
+    from: &[u16],
+    to: &[u16],
+    starts: &mut [u16; OPERATIONS],
+    out: &mut [u16],
+) -> Answer
+    requires { ⌜ Closed (ordered (now delays) (now from) (now to)) ⌝ }
+    requires { ⌜ length (now delays) ≤ length (now out) ⌝ }
+    ensures { λ r. ⌜ OrderAdmitted (ordered (now (delays .entry)) (now (from .entry)) (now (to .entry))) (now (out .entry)) r (now (starts .exit)) (now (out .exit)) ⌝ }
+{
+    let placed = earliest::earliest(delays, from, to, starts);
+    if placed == delays.len() {
+        return Answer::Done;
+    }
+    let long = cycle::show(delays, from, to, starts, out);
+    Answer::Refused(Refusal::Cycle(long))
+}
+
+// The same where no output row is lent: a cycle's length is given, and it is written nowhere.
+pub fn cycle_fault(delays: &[u8], from: &[u16], to: &[u16]) -> Answer
+    requires { ⌜ Closed (ordered (now delays) (now from) (now to)) ⌝ }
+    ensures { λ r. ⌜ First (cyclic (ordered (now (delays .entry)) (now (from .entry)) (now (to .entry)))) (refusalOf r) ⌝ }
+{
+    let mut starts = [0u16; OPERATIONS];
+    let mut shown = [0u16; OPERATIONS];
+    place(delays, from, to, &mut starts, &mut shown)
+}

@@ -1,0 +1,3 @@
+pub mod Tally
+pub mod Findings
+pub mod OneAnswer

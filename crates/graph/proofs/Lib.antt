@@ -1,3 +1,0 @@
-mod Unitless
-mod Manned
-mod Filled

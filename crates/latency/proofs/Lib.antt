@@ -1,0 +1,2 @@
+mod LastStep
+mod Differing

@@ -1,0 +1,2 @@
+pub mod LaterAndDifferences
+pub mod OneAnswer

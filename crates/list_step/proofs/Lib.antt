@@ -1,0 +1,6 @@
+mod CountingByValue
+mod Rooms
+mod Ranking
+mod Labelled
+mod Passing
+mod Clearing

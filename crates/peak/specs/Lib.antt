@@ -1,2 +1,0 @@
-pub mod Peaking
-pub mod One

@@ -1,0 +1,87 @@
+// Peak use: for each type the largest number of its operations that are running at any one step.
+use model::Answer;
+use model::Peaks;
+use model::limits::KINDS;
+ghost use mathlib.Core.Path.{_≡_};
+ghost use mathlib.Core.List.{List};
+ghost use Prim.Native.Nat.{ℕ, max};
+ghost use Rattle.model.specs.Graph.{lent};
+ghost use Rattle.model.specs.Refusals.{First};
+ghost use Rattle.model.specs.Answers.{refusalOf};
+ghost use Rattle.model.specs.Verdicts.{peakChecks, PeakAnswer};
+ghost use Rattle.peak_use.specs.Peaking.{Countable, AllPeaks};
+
+// The larger of two numbers.
+fn larger(a: usize, b: usize) -> usize
+    ensures { λ r. ⌜ r ≡ max a b ⌝ }
+{
+    if a < b {
+        return b;
+    }
+    a
+}
+
+// For each type the largest number of its operations that are running at the start of one of them: no step has more.
+fn peaks(delays: &[u8], types: &[u8], starts: &[u16]) -> [usize; KINDS]
+    requires { ⌜ Countable (now delays) (now types) (now starts) ⌝ }
+    ensures { λ r. ⌜ ((kinds : ℕ) (from to : List ℕ) → AllPeaks (lent (now (delays .entry)) (now (types .entry)) kinds from to) (now (starts .entry)) r) ⌝ }
+{
+    let mut counts = [0usize; KINDS];
+    let mut i = 0;
+    while i < delays.len() {
+        let kind = types[i] as usize;
+        let now = unit_use::in_use(delays, types, starts, types[i], starts[i], delays.len());
+        counts[kind] = larger(counts[kind], now);
+        i += 1;
+    }
+    counts
+}
+
+// Peak use's refusals: 1 to 4 and 7.
+fn peak_fault(
+    delays: &[u8],
+    types: &[u8],
+    kinds: usize,
+    from: &[u16],
+    to: &[u16],
+    starts: &[u16],
+) -> Answer
+    ensures { λ r. ⌜ First (peakChecks (lent (now (delays .entry)) (now (types .entry)) kinds (now (from .entry)) (now (to .entry))) (now (starts .entry))) (refusalOf r) ⌝ }
+{
+    let shape = admission::graph::graph_fault(
+        delays,
+        types,
+        kinds,
+        from,
+        to,
+        starts.len() == delays.len(),
+    );
+    if let Answer::Refused(why) = shape {
+        return Answer::Refused(why);
+    }
+    admission::precedence::cycle_fault(delays, from, to)
+}
+
+// For each type the largest number of operations that are running at any one step; zeros when refused.
+pub fn peak_use(
+    delays: &[u8],
+    types: &[u8],
+    kinds: usize,
+    from: &[u16],
+    to: &[u16],
+    starts: &[u16],
+) -> Peaks
+    ensures { λ r. ⌜ PeakAnswer (lent (now (delays .entry)) (now (types .entry)) kinds (now (from .entry)) (now (to .entry))) (now (starts .entry)) r ⌝ }
+{
+    let fault = peak_fault(delays, types, kinds, from, to, starts);
+    match fault {
+        Answer::Refused(why) => Peaks {
+            answer: Answer::Refused(why),
+            counts: [0; KINDS],
+        },
+        Answer::Done => Peaks {
+            answer: Answer::Done,
+            counts: peaks(delays, types, starts),
+        },
+    }
+}

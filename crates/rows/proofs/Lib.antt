@@ -1,2 +1,0 @@
-mod Latest
-mod Differing

@@ -1,6 +1,0 @@
-mod Tallies
-mod Rooms
-mod Ranking
-mod Labelled
-mod Passing
-mod Clearing

@@ -1,6 +1,0 @@
-pub mod Tally
-pub mod Turn
-pub mod Candidates
-pub mod Priority
-pub mod RankLaws
-pub mod One

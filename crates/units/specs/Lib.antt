@@ -1,3 +1,0 @@
-pub mod Tally
-pub mod Findings
-pub mod One
