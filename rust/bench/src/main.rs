@@ -1,6 +1,9 @@
 //! The benchmark: the proved library against plain Rust that does the same work, in one run.
 //!
 //! `bench` prints a Markdown table; `bench --smoke` asks every question once, for the gate.
+//! It measures the linked library: where that is not there, it says so and ends with status 4.
+
+#![forbid(unsafe_code)]
 
 mod clock;
 mod plain;
@@ -10,6 +13,8 @@ mod subject;
 
 use std::io::{self, Write};
 use std::process::ExitCode;
+
+use pedal::face::{self, Way};
 
 use crate::clock::Clock;
 use crate::report::{Comparison, Report};
@@ -126,8 +131,29 @@ fn smoke() -> String {
     format!("bench: {count} comparisons, the same answers on both sides\n")
 }
 
+/// Whether the library is linked and asked so; if not, says why nothing is measured.
+fn is_linked() -> bool {
+    match face::way() {
+        Ok(Way::Linked) => true,
+        Ok(Way::Engine) => {
+            eprintln!(
+                "bench: the benchmark measures the linked library: x86-64 only, and without \
+                 PEDAL_WAY=engine"
+            );
+            false
+        }
+        Err(broken) => {
+            eprintln!("bench: {broken}");
+            false
+        }
+    }
+}
+
 /// Runs the benchmark, whole or as a smoke test.
 fn main() -> ExitCode {
+    if !is_linked() {
+        return ExitCode::from(4);
+    }
     let words: Vec<String> = std::env::args().skip(1).collect();
     let text = match words.iter().map(String::as_str).collect::<Vec<&str>>()[..] {
         [] => run(&Clock::patient()).to_string(),

@@ -1,31 +1,16 @@
-//! The proved side, through the C face.
+//! The proved side, lent its rows directly.
 
 use std::hint::black_box;
 
-use pedal::ffi;
+use pedal::face::{self, Row, WrittenRow};
+use pedal::Broken;
 
 use crate::subject::Subject;
 
-/// Calls a function with a subject's graph and whatever else it takes.
-macro_rules! call {
-    ($function:ident, $subject:expr $(, $other:expr)*) => {{
-        let subject: &Subject = black_box($subject);
-        // SAFETY: every row is lent with its own length and outlives the call.
-        unsafe {
-            ffi::$function(
-                subject.delays.as_ptr(),
-                subject.delays.len(),
-                subject.types.as_ptr(),
-                subject.types.len(),
-                subject.kinds,
-                subject.from.as_ptr(),
-                subject.from.len(),
-                subject.to.as_ptr(),
-                subject.to.len(),
-                $($other,)*
-            )
-        }
-    }};
+/// An answer, which cannot fail to come where the library is linked.
+#[inline]
+fn answered<T>(answer: Result<T, Broken>) -> T {
+    answer.unwrap_or_else(|broken| panic!("{broken}"))
 }
 
 /// The sum of a row, so that both sides' rows are compared.
@@ -36,75 +21,48 @@ pub fn sum(row: &[u16]) -> u64 {
 
 /// Earliest starts.
 pub fn asap(subject: &Subject, out: &mut [u16]) -> (usize, u64) {
-    let answer = call!(pedal_asap, subject, out.as_mut_ptr(), out.len());
+    let graph = black_box(subject).rows();
+    let answer = answered(face::asap(graph, WrittenRow::of(out)));
     (answer.refusal, sum(out))
 }
 
 /// The list schedule.
 pub fn list(subject: &Subject, out: &mut [u16]) -> (usize, u64) {
-    let units = &subject.units;
-    let answer = call!(
-        pedal_list,
-        subject,
-        units.as_ptr(),
-        units.len(),
-        out.as_mut_ptr(),
-        out.len()
-    );
+    let subject = black_box(subject);
+    let (graph, units) = (subject.rows(), Row::of(&subject.units));
+    let answer = answered(face::list(graph, units, WrittenRow::of(out)));
     (answer.latency, sum(out))
 }
 
 /// The checker; 0 where lawful.
 pub fn check(subject: &Subject) -> usize {
-    let (units, starts) = (&subject.units, &subject.starts);
-    let answer = call!(
-        pedal_check,
-        subject,
-        units.as_ptr(),
-        units.len(),
-        subject.bound,
-        starts.as_ptr(),
-        starts.len()
-    );
+    let subject = black_box(subject);
+    let (units, starts) = (Row::of(&subject.units), Row::of(&subject.starts));
+    let answer = answered(face::check(subject.rows(), units, subject.bound, starts));
     answer.refusal + answer.finding
 }
 
 /// Peak use.
 pub fn peak(subject: &Subject) -> [usize; 4] {
-    let starts = &subject.starts;
-    call!(pedal_peak, subject, starts.as_ptr(), starts.len()).peak
+    let subject = black_box(subject);
+    answered(face::peak(subject.rows(), Row::of(&subject.starts))).peak
 }
 
 /// The least schedule.
 fn first(subject: &Subject, out: &mut [u16]) -> bool {
-    let units = &subject.units;
-    let answer = call!(
-        pedal_first,
-        subject,
-        units.as_ptr(),
-        units.len(),
-        subject.bound,
-        out.as_mut_ptr(),
-        out.len()
-    );
-    answer.found == 1
+    let subject = black_box(subject);
+    let (graph, units) = (subject.rows(), Row::of(&subject.units));
+    let answer = face::first(graph, units, subject.bound, WrittenRow::of(out));
+    answered(answer).found == 1
 }
 
 /// The least schedule after a row.
 fn next(subject: &Subject, after: &[u16], out: &mut [u16]) -> bool {
-    let units = &subject.units;
-    let answer = call!(
-        pedal_next,
-        subject,
-        units.as_ptr(),
-        units.len(),
-        subject.bound,
-        after.as_ptr(),
-        after.len(),
-        out.as_mut_ptr(),
-        out.len()
-    );
-    answer.found == 1
+    let subject = black_box(subject);
+    let (graph, units) = (subject.rows(), Row::of(&subject.units));
+    let (after, out) = (Row::of(after), WrittenRow::of(out));
+    let answer = face::next(graph, units, subject.bound, after, out);
+    answered(answer).found == 1
 }
 
 /// Lists all schedules: how many there are, and the sum over them.

@@ -1,5 +1,6 @@
 //! The graphs that are timed.
 
+use pedal::face::{GraphRows, Row};
 use second::random::Xorshift;
 use second::{quick, Graph};
 
@@ -143,6 +144,18 @@ impl Subject {
             kinds: self.kinds,
             from: &self.from,
             to: &self.to,
+        }
+    }
+
+    /// The graph as the proved side takes it.
+    #[inline]
+    pub fn rows(&self) -> GraphRows<'_> {
+        GraphRows {
+            delays: Row::of(&self.delays),
+            types: Row::of(&self.types),
+            kinds: self.kinds,
+            from: Row::of(&self.from),
+            to: Row::of(&self.to),
         }
     }
 

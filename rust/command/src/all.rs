@@ -58,11 +58,11 @@ fn stream(
     look: &Look,
     schedules: Schedules<'_>,
     limit: usize,
-) -> io::Result<usize> {
+) -> Result<usize, Trouble> {
     let mut count = 0;
     for starts in schedules.take(limit) {
         count += 1;
-        out.write_all(look.line(&entries(count, &starts)).as_bytes())?;
+        out.write_all(look.line(&entries(count, &starts?)).as_bytes())?;
     }
     Ok(count)
 }
@@ -86,7 +86,7 @@ fn list(
     heading: &[String],
     schedules: Schedules<'_>,
     limit: Option<usize>,
-) -> io::Result<usize> {
+) -> Result<usize, Trouble> {
     out.write_all(look.line(heading).as_bytes())?;
     let count = stream(out, look, schedules, limit.unwrap_or(usize::MAX))?;
     if !look.csv {
@@ -106,6 +106,9 @@ pub fn all(job: &Job, csv: bool, limit: Option<usize>) -> Result<Status, Trouble
     match list(&mut out, &look, &heading, schedules, limit) {
         Ok(0) => Ok(Status::Fault),
         Ok(_) => Ok(Status::Answered),
-        Err(error) => trouble::unless_closed(Err(error)).map(|()| Status::Answered),
+        Err(Trouble::Output(error)) => {
+            trouble::unless_closed(Err(error)).map(|()| Status::Answered)
+        }
+        Err(trouble) => Err(trouble),
     }
 }

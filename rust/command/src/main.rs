@@ -53,6 +53,7 @@ fn answer(options: &Options, job: &Job) -> Result<Status, Trouble> {
 fn run() -> Result<Status, Trouble> {
     match usage::read(std::env::args_os().skip(1))? {
         Asked::Help => print(usage::HELP).map(|()| Status::Answered),
+        Asked::Version => print(usage::VERSION).map(|()| Status::Answered),
         Asked::Question(options) => {
             let source = input::read(options.file.as_deref())?;
             let job = format::read(&source)?;
@@ -67,5 +68,6 @@ fn main() -> ExitCode {
         complain(&trouble);
         trouble.status()
     });
+    pedal::face::end();
     ExitCode::from(status as u8)
 }

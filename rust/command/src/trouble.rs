@@ -3,7 +3,7 @@
 use std::fmt;
 use std::io;
 
-use pedal::Refusal;
+use pedal::{Broken, Error, Refusal};
 
 /// The exit status.
 #[derive(Clone, Copy, Debug, PartialEq, Eq)]
@@ -16,6 +16,8 @@ pub enum Status {
     Refused = 2,
     /// The input or the command line cannot be read.
     Unreadable = 3,
+    /// The library could not be asked.
+    Broken = 4,
 }
 
 /// Why there is no answer.
@@ -23,6 +25,8 @@ pub enum Status {
 pub enum Trouble {
     /// The library refused the question.
     Refused(Refusal),
+    /// The library could not be asked.
+    Broken(Broken),
     /// A line of an input cannot be read.
     Line {
         /// The input's name.
@@ -50,6 +54,7 @@ impl Trouble {
     pub fn status(&self) -> Status {
         match self {
             Trouble::Refused(_) => Status::Refused,
+            Trouble::Broken(_) => Status::Broken,
             _ => Status::Unreadable,
         }
     }
@@ -60,6 +65,7 @@ impl fmt::Display for Trouble {
     fn fmt(&self, f: &mut fmt::Formatter<'_>) -> fmt::Result {
         match self {
             Trouble::Refused(refusal) => write!(f, "{refusal} (place {})", refusal.place),
+            Trouble::Broken(broken) => write!(f, "{broken}"),
             Trouble::Line {
                 source,
                 line,
@@ -72,10 +78,20 @@ impl fmt::Display for Trouble {
     }
 }
 
-impl From<Refusal> for Trouble {
-    /// A refusal is a trouble of its own.
-    fn from(refusal: Refusal) -> Trouble {
-        Trouble::Refused(refusal)
+impl From<Error> for Trouble {
+    /// A refusal and a library that could not be asked are troubles of their own.
+    fn from(error: Error) -> Trouble {
+        match error {
+            Error::Refused(refusal) => Trouble::Refused(refusal),
+            Error::Broken(broken) => Trouble::Broken(broken),
+        }
+    }
+}
+
+impl From<io::Error> for Trouble {
+    /// What fails while an answer is printed is its output.
+    fn from(error: io::Error) -> Trouble {
+        Trouble::Output(error)
     }
 }
 

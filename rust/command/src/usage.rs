@@ -6,6 +6,8 @@ use crate::trouble::Trouble;
 
 /// What `pedal --help` prints.
 pub const HELP: &str = include_str!("help.txt");
+/// What `pedal --version` prints.
+pub const VERSION: &str = concat!("pedal ", env!("CARGO_PKG_VERSION"), "\n");
 
 /// What is asked of a graph.
 #[derive(Clone, Copy, Debug, PartialEq, Eq)]
@@ -58,6 +60,8 @@ pub struct Options {
 pub enum Asked {
     /// The help text.
     Help,
+    /// The version.
+    Version,
     /// A question.
     Question(Options),
 }
@@ -80,6 +84,7 @@ pub fn read(arguments: impl Iterator<Item = OsString>) -> Result<Asked, Trouble>
     while let Some(word) = arguments.next() {
         match word.to_str() {
             Some("--help" | "-h") => return Ok(Asked::Help),
+            Some("--version" | "-V") => return Ok(Asked::Version),
             Some("--csv") => words.csv = true,
             Some("--limit") => words.limit = Some(limit(arguments.next())?),
             Some(option) if option.len() > 1 && option.starts_with('-') => {

@@ -322,6 +322,15 @@ fn large_graphs_are_refused() {
     assert!(said.starts_with("pedal: refusal 10: "));
 }
 
+/// The version, as it stands in the package.
+#[test]
+fn version() {
+    let version = format!("pedal {}\n", env!("CARGO_PKG_VERSION"));
+    for word in ["--version", "-V"] {
+        assert_eq!(answered(run(&[word], ""), 0), version);
+    }
+}
+
 /// The text behind a mark in the help text, up to the next line that is not indented.
 fn indented(help: &str, mark: &str) -> String {
     let (_, after) = help.split_once(mark).expect(mark);

@@ -1,10 +1,14 @@
 //! The differential test: `differ [--seed N] [--inputs N] [--seconds N]`.
 
+#![forbid(unsafe_code)]
+
 use std::io::{self, Write};
 use std::process::ExitCode;
 use std::time::{Duration, Instant, SystemTime, UNIX_EPOCH};
 
-use differ::{compare, generator, make, Difference, Input, Tally};
+use differ::{compare, generator, make, Difference, Input, Stop, Tally};
+use pedal::face::{self, Way};
+use pedal::Broken;
 
 /// What the command line says.
 struct Options {
@@ -24,6 +28,8 @@ enum End {
     Late,
     /// The two sides differ.
     Differs(Box<Difference>, Box<Input>),
+    /// The proved library could not be asked.
+    Broken(Broken),
 }
 
 /// How the command is used.
@@ -31,14 +37,15 @@ const USAGE: &str = "\
 differ [--seed N] [--inputs N] [--seconds N]
 
 Asks the proved library and the second opinion the same random questions and compares every answer
-and every lent row. The seed is printed, so that a run can be repeated.
+and every lent row. The seed is printed, so that a run can be repeated. The library is asked linked,
+or through the engine where PEDAL_WAY is engine.
 
   --seed N     where the random numbers begin     (from the clock)
   --inputs N   how many inputs to try             (200000)
   --seconds N  when to stop, 0 for never          (120)
 
 Exit status: 0 all inputs tried, no difference; 1 a difference; 2 bad usage; 3 the time was up
-before all inputs were tried.";
+before all inputs were tried; 4 the library could not be asked.";
 
 impl Options {
     /// The options where nothing is said.
@@ -81,8 +88,12 @@ fn run(options: &Options, begin: Instant, tally: &mut Tally) -> (usize, End) {
             return (tried, End::Late);
         }
         let input = make(&mut rng);
-        if let Err(difference) = compare(&input, tally) {
-            return (tried, End::Differs(difference, Box::new(input)));
+        match compare(&input, tally) {
+            Ok(()) => {}
+            Err(Stop::Differs(difference)) => {
+                return (tried, End::Differs(difference, Box::new(input)));
+            }
+            Err(Stop::Broken(broken)) => return (tried, End::Broken(broken)),
         }
     }
     (options.inputs, End::Done)
@@ -116,6 +127,7 @@ fn ending(end: &End, tally: &Tally) -> (String, u8) {
             format!("then a difference:\n{}", shown(difference, input)),
             1,
         ),
+        End::Broken(broken) => (format!("then no more could be asked: {broken}\n"), 4),
     }
 }
 
@@ -124,28 +136,42 @@ fn print(text: &str) {
     let _ = io::stdout().write_all(text.as_bytes());
 }
 
-/// Tries the inputs and sums up.
-fn try_inputs(options: &Options) -> ExitCode {
+/// How many questions were asked, how fast, and in which way.
+fn speed(tally: &Tally, seconds: f64, way: Way) -> String {
+    let total = tally.total();
+    let rate = total as f64 / seconds.max(1e-9);
+    format!("{total} questions, {rate:.0} a second, {way}\n")
+}
+
+/// Tries the inputs in a way and sums up.
+fn try_inputs(options: &Options, way: Way) -> ExitCode {
     print(&format!("seed {}\n", options.seed));
     let begin = Instant::now();
     let mut tally = Tally::default();
     let (tried, end) = run(options, begin, &mut tally);
     let seconds = begin.elapsed().as_secs_f64();
+    face::end();
     let (words, status) = ending(&end, &tally);
     print(&format!(
-        "{tally}{tried} of {} inputs in {seconds:.1} s, seed {}: {words}",
-        options.inputs, options.seed
+        "{tally}{}{tried} of {} inputs in {seconds:.1} s, seed {}: {words}",
+        speed(&tally, seconds, way),
+        options.inputs,
+        options.seed
     ));
     ExitCode::from(status)
 }
 
 /// Does what the command line asks.
 fn main() -> ExitCode {
-    match Options::read(std::env::args().skip(1)) {
-        Some(options) => try_inputs(&options),
-        None => {
+    match (Options::read(std::env::args().skip(1)), face::way()) {
+        (Some(options), Ok(way)) => try_inputs(&options, way),
+        (None, _) => {
             eprintln!("{USAGE}");
             ExitCode::from(2)
+        }
+        (_, Err(broken)) => {
+            eprintln!("differ: {broken}");
+            ExitCode::from(4)
         }
     }
 }

@@ -1,5 +1,7 @@
 //! Lent rows with margins, so that a stray write shows.
 
+use pedal::face;
+
 /// How many entries stand before and after a row.
 const MARGIN: usize = 8;
 
@@ -28,17 +30,21 @@ impl<T: Copy + PartialEq> Row<T> {
         }
     }
 
-    /// Where the row begins.
-    pub fn pointer(&mut self) -> *mut T {
-        if self.null {
-            return std::ptr::null_mut();
+    /// The row as it is lent to be read.
+    pub fn lend(&self) -> face::Row<'_, T> {
+        match self.null {
+            true => face::Row::null(),
+            false => face::Row::of(self.content()),
         }
-        self.cells[MARGIN..].as_mut_ptr()
     }
 
-    /// The row's length.
-    pub fn length(&self) -> usize {
-        self.cells.len() - 2 * MARGIN
+    /// The row as it is lent to be written.
+    pub fn lend_to_write(&mut self) -> face::WrittenRow<'_, T> {
+        let end = self.cells.len() - MARGIN;
+        match self.null {
+            true => face::WrittenRow::null(),
+            false => face::WrittenRow::of(&mut self.cells[MARGIN..end]),
+        }
     }
 
     /// The row as it is now.
@@ -70,7 +76,7 @@ mod tests {
         for content in [&[][..], &[1, 2, 3]] {
             let row = Row::new("row", content, 9u16, true);
             assert_eq!(row.content(), content);
-            assert_eq!(row.length(), content.len());
+            assert_eq!(row.lend().entries(), content);
             assert_eq!((row.changed(), row.overrun()), (None, None));
         }
     }
@@ -78,18 +84,24 @@ mod tests {
     /// An empty row has a null pointer where that is asked for, and only then.
     #[test]
     fn null_pointers() {
-        assert!(Row::new("row", &[], 9u16, true).pointer().is_null());
-        assert!(!Row::new("row", &[], 9u16, false).pointer().is_null());
-        assert!(!Row::new("row", &[1], 9u16, true).pointer().is_null());
+        for (content, null, is_null) in [
+            (&[][..], true, true),
+            (&[], false, false),
+            (&[1], true, false),
+        ] {
+            let mut row = Row::new("row", content, 9u16, null);
+            assert_eq!(row.lend().is_null(), is_null);
+            assert_eq!(row.lend_to_write().read().is_null(), is_null);
+        }
     }
 
     /// A write to an entry is a change; one before or after the row is also an overrun.
     #[test]
     fn strays() {
-        for (place, overrun) in [(-1, Some("row")), (0, None), (2, None), (3, Some("row"))] {
+        let before = MARGIN - 1;
+        for (place, overrun) in [(0, Some("row")), (1, None), (3, None), (4, Some("row"))] {
             let mut row = Row::new("row", &[1, 2, 3], 9u16, false);
-            // SAFETY: the margins on both sides belong to the row's own memory.
-            unsafe { *row.pointer().offset(place) = 7 };
+            row.cells[before + place] = 7;
             assert_eq!((row.changed(), row.overrun()), (Some("row"), overrun));
         }
     }

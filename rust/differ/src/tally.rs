@@ -37,6 +37,12 @@ impl Tally {
         }
     }
 
+    /// How many questions were asked.
+    pub fn total(&self) -> usize {
+        let counts = self.answers.iter().flatten();
+        counts.chain(self.refusals.iter().flatten()).sum()
+    }
+
     /// The counts of a question, each with its name.
     fn counts(&self, question: Question) -> Vec<(String, usize)> {
         let place = question as usize;

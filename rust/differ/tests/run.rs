@@ -22,11 +22,12 @@ fn every_answer_is_met() {
     let mut tally = Tally::default();
     for _ in 0..4000 {
         let input = make(&mut rng);
-        if let Err(difference) = compare(&input, &mut tally) {
-            panic!("{input}\n{difference:?}");
+        if let Err(stop) = compare(&input, &mut tally) {
+            panic!("{input}\n{stop:?}");
         }
     }
     assert_eq!(tally.not_met(), [""; 0]);
+    assert_eq!(tally.total(), 4000 * QUESTIONS.len());
 }
 
 /// The same seed gives the same inputs, and another seed others.
@@ -53,7 +54,7 @@ fn every_part_counts() {
     };
     let expected = expect(Question::List, &input);
     assert_eq!(expected.row, [1, 6]);
-    assert_eq!(ask(Question::List, &input), expected);
+    assert_eq!(ask(Question::List, &input).as_ref(), Ok(&expected));
     let edits: [fn(&mut Answer); 5] = [
         |answer| answer.refusal += 1,
         |answer| answer.place += 1,
@@ -88,7 +89,8 @@ fn summary() {
     for question in QUESTIONS {
         assert!(text.contains(&format!("\n{}  ", question.name())));
     }
-    assert!(text.contains("300 of 300 inputs in "));
+    assert!(text.contains("\n3000 questions, "));
+    assert!(text.contains("\n300 of 300 inputs in "));
     let counts = |text: &str| {
         text.lines()
             .take(11)
@@ -104,6 +106,24 @@ fn late() {
     let output = differ(&["--inputs", "1000000000", "--seconds", "1"]);
     assert_eq!(output.status.code(), Some(3));
     assert!(printed(&output).contains("the time is up"));
+}
+
+/// A way that is none cannot be asked.
+#[test]
+fn no_way() {
+    let mut command = Command::new(env!("CARGO_BIN_EXE_differ"));
+    let output = command.env("PEDAL_WAY", "by foot").output().unwrap();
+    assert_eq!(output.status.code(), Some(4));
+    assert!(output.stderr.starts_with(b"differ: PEDAL_WAY is 'by foot'"));
+}
+
+/// A run says in which way it asked.
+#[test]
+fn way() {
+    let output = differ(&["--inputs", "1"]);
+    let way = pedal::face::way().unwrap();
+    let line = format!(" a second, {way}\n");
+    assert!(printed(&output).contains(&line));
 }
 
 /// Words that make no sense are bad usage.

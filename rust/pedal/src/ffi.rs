@@ -1,8 +1,9 @@
 //! The declarations of `include/pedal.h`, word for word. A test holds every one against the
 //! header.
 //!
-//! Calling them is unsafe for one reason: a row is a pointer and a length, and the two must
-//! belong to memory that is there. Whatever numbers that memory holds, every function answers.
+//! The functions are there where the library is linked. Calling them is unsafe for one reason: a
+//! row is a pointer and a length, and the two must belong to memory that is there. Whatever
+//! numbers that memory holds, every function answers. `face` calls them, and nothing else does.
 
 /// The starts of a state, and the most operations of a graph.
 pub const PEDAL_OPERATIONS: usize = 64;
@@ -104,6 +105,7 @@ pub struct Part {
     pub length: usize,
 }
 
+#[cfg(linked)]
 extern "C" {
     /// Earliest starts under precedence alone. Refusals 1 to 5 and 7.
     pub fn pedal_asap(

@@ -1,5 +1,7 @@
 //! A graph of operations, with their names where they have some.
 
+use crate::face::{GraphRows, Row};
+
 /// Operations with their delays and types, and the edges between them.
 ///
 /// Any rows make a graph; each question refuses the ones that are at fault.
@@ -106,6 +108,17 @@ impl Graph {
         let pairs = starts.iter().zip(&self.delays);
         let ends = pairs.map(|(&start, &delay)| usize::from(start) + usize::from(delay));
         ends.max().unwrap_or(0).saturating_sub(1)
+    }
+
+    /// The graph's rows, to be lent.
+    pub(crate) fn rows(&self) -> GraphRows<'_> {
+        GraphRows {
+            delays: Row::of(&self.delays),
+            types: Row::of(&self.types),
+            kinds: self.kinds,
+            from: Row::of(&self.from),
+            to: Row::of(&self.to),
+        }
     }
 
     /// A row with an entry for each operation.

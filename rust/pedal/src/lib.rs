@@ -1,8 +1,9 @@
 //! A safe face over the proved scheduler: earliest and latest starts, mobility, list schedules,
 //! a checker, peak use, all lawful schedules, and views of two channels' tables.
 //!
-//! The answers come from the proved library; what stands above it here (the names, the words of
-//! a refusal, the C boundary's declarations) is plain Rust.
+//! The answers come from the proved library, linked or through a proved program that asks it
+//! ([`face`]); what stands above it here (the names, the words of a refusal, the C boundary's
+//! declarations) is plain Rust.
 //!
 //! ```
 //! use pedal::{Finding, GraphBuilder};
@@ -19,29 +20,41 @@
 //! assert_eq!(schedule.starts, [1, 3, 5]);
 //! assert_eq!(schedule.latency, 5);
 //! assert_eq!(graph.check(&[1, 1], 5, &schedule.starts)?, Finding::Lawful);
-//! assert_eq!(graph.schedules(&[1, 1], 5)?.count(), 2);
+//! let all: Result<Vec<Vec<u16>>, pedal::Error> = graph.schedules(&[1, 1], 5)?.collect();
+//! assert_eq!(all?, [[1, 3, 5], [3, 1, 5]]);
 //!
-//! let refusal = graph.alap(2).unwrap_err();
-//! assert_eq!(refusal.to_string(), "refusal 9: the bound 2 is below the ASAP latency 3");
+//! let error = graph.alap(2).unwrap_err();
+//! assert_eq!(error.to_string(), "refusal 9: the bound 2 is below the ASAP latency 3");
+//! assert_eq!(error.refusal().map(|refusal| refusal.number), Some(9));
 //! # Ok(())
 //! # }
 //! ```
 
 #![warn(missing_docs)]
+#![deny(unsafe_code)]
 
+pub mod face;
 pub mod ffi;
 
+mod broken;
 mod builder;
+mod error;
 mod graph;
+mod process;
+#[cfg(test)]
+mod process_tests;
 mod questions;
 mod refusal;
 mod schedules;
+mod start;
 mod state;
 #[cfg(test)]
 mod tests;
 mod view;
 
+pub use broken::Broken;
 pub use builder::{GraphBuilder, NameError};
+pub use error::Error;
 pub use graph::Graph;
 pub use questions::{Finding, Schedule};
 pub use refusal::Refusal;

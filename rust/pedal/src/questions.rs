@@ -1,33 +1,8 @@
 //! The questions about a graph, each handed on to the proved library.
 
+use crate::face::{self, Row, WrittenRow};
 use crate::refusal::Lent;
-use crate::{ffi, Graph, Refusal, Schedules, MOST_KINDS};
-
-/// Calls a function of the C face with a graph's rows and whatever else it takes.
-///
-/// A row is lent with its own length, so that the call is safe whatever the rows hold.
-macro_rules! ask {
-    ($function:ident, $graph:expr $(, $other:expr)*) => {{
-        let graph: &$crate::Graph = $graph;
-        // SAFETY: every pointer goes with the length of the row that it was taken from, those
-        // rows outlive the call, and no row that is written is lent twice.
-        unsafe {
-            $crate::ffi::$function(
-                graph.delays.as_ptr(),
-                graph.delays.len(),
-                graph.types.as_ptr(),
-                graph.types.len(),
-                graph.kinds,
-                graph.from.as_ptr(),
-                graph.from.len(),
-                graph.to.as_ptr(),
-                graph.to.len(),
-                $($other,)*
-            )
-        }
-    }};
-}
-pub(crate) use ask;
+use crate::{ffi, Error, Graph, Schedules, MOST_KINDS};
 
 /// A list schedule.
 #[derive(Clone, Debug, PartialEq, Eq)]
@@ -83,56 +58,42 @@ impl Finding {
 
 impl Graph {
     /// The earliest start of each operation under precedence alone.
-    pub fn asap(&self) -> Result<Vec<u16>, Refusal> {
+    pub fn asap(&self) -> Result<Vec<u16>, Error> {
         let mut out = self.row();
-        let answer = ask!(pedal_asap, self, out.as_mut_ptr(), out.len());
+        let answer = face::asap(self.rows(), WrittenRow::of(&mut out))?;
         self.settle_row(answer.refusal, answer.place, &out, Lent::default())?;
         Ok(out)
     }
 
     /// The latest start of each operation under precedence and a latency bound.
-    pub fn alap(&self, bound: usize) -> Result<Vec<u16>, Refusal> {
+    pub fn alap(&self, bound: usize) -> Result<Vec<u16>, Error> {
         let mut out = self.row();
-        let answer = ask!(pedal_alap, self, bound, out.as_mut_ptr(), out.len());
+        let answer = face::alap(self.rows(), bound, WrittenRow::of(&mut out))?;
         self.settle_row(answer.refusal, answer.place, &out, Lent::bound(bound))?;
         Ok(out)
     }
 
     /// The latest less the earliest start of each operation.
-    pub fn mobility(&self, bound: usize) -> Result<Vec<u16>, Refusal> {
+    pub fn mobility(&self, bound: usize) -> Result<Vec<u16>, Error> {
         let mut out = self.row();
-        let answer = ask!(pedal_mobility, self, bound, out.as_mut_ptr(), out.len());
+        let answer = face::mobility(self.rows(), bound, WrittenRow::of(&mut out))?;
         self.settle_row(answer.refusal, answer.place, &out, Lent::bound(bound))?;
         Ok(out)
     }
 
     /// The list schedule under unit counts, one for each type.
-    pub fn list(&self, units: &[u8]) -> Result<Schedule, Refusal> {
+    pub fn list(&self, units: &[u8]) -> Result<Schedule, Error> {
         let mut starts = self.row();
-        let answer = ask!(
-            pedal_list,
-            self,
-            units.as_ptr(),
-            units.len(),
-            starts.as_mut_ptr(),
-            starts.len()
-        );
+        let out = WrittenRow::of(&mut starts);
+        let answer = face::list(self.rows(), Row::of(units), out)?;
         self.settle_row(answer.refusal, answer.place, &starts, Lent::units(units))?;
         let latency = answer.latency;
         Ok(Schedule { starts, latency })
     }
 
     /// Whether a schedule is lawful for the units and the bound, or its first fault.
-    pub fn check(&self, units: &[u8], bound: usize, starts: &[u16]) -> Result<Finding, Refusal> {
-        let verdict = ask!(
-            pedal_check,
-            self,
-            units.as_ptr(),
-            units.len(),
-            bound,
-            starts.as_ptr(),
-            starts.len()
-        );
+    pub fn check(&self, units: &[u8], bound: usize, starts: &[u16]) -> Result<Finding, Error> {
+        let verdict = face::check(self.rows(), Row::of(units), bound, Row::of(starts))?;
         let lent = Lent {
             starts: Some(starts.len()),
             bound,
@@ -143,8 +104,8 @@ impl Graph {
     }
 
     /// For each type the most operations running at any one step, under any row of starts.
-    pub fn peak(&self, starts: &[u16]) -> Result<[usize; MOST_KINDS], Refusal> {
-        let answer = ask!(pedal_peak, self, starts.as_ptr(), starts.len());
+    pub fn peak(&self, starts: &[u16]) -> Result<[usize; MOST_KINDS], Error> {
+        let answer = face::peak(self.rows(), Row::of(starts))?;
         let lent = Lent {
             starts: Some(starts.len()),
             ..Lent::default()
@@ -154,7 +115,7 @@ impl Graph {
     }
 
     /// All lawful schedules for the units and the bound, in the order of words.
-    pub fn schedules(&self, units: &[u8], bound: usize) -> Result<Schedules<'_>, Refusal> {
+    pub fn schedules(&self, units: &[u8], bound: usize) -> Result<Schedules<'_>, Error> {
         Schedules::new(self, units, bound)
     }
 }

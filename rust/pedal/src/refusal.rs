@@ -2,7 +2,7 @@
 
 use std::fmt;
 
-use crate::{Graph, LAST_STEP, LONGEST_DELAY, MOST_EDGES, MOST_KINDS, MOST_OPERATIONS};
+use crate::{Error, Graph, LAST_STEP, LONGEST_DELAY, MOST_EDGES, MOST_KINDS, MOST_OPERATIONS};
 
 /// A question turned down: the number and place that the library gives, and the reason in words.
 #[derive(Clone, Debug, PartialEq, Eq)]
@@ -58,12 +58,12 @@ pub(crate) struct Lent {
 
 impl Graph {
     /// Passes an answer, or makes a refusal of its number and place.
-    pub(crate) fn settle(&self, number: usize, place: usize, lent: Lent) -> Result<(), Refusal> {
-        if number == 0 {
-            return Ok(());
+    pub(crate) fn settle(&self, number: usize, place: usize, lent: Lent) -> Result<(), Error> {
+        match number {
+            0 => Ok(()),
+            7 => self.refuse(7, place, self.cycle()?, lent),
+            _ => self.refuse(number, place, None, lent),
         }
-        let cycle = if number == 7 { self.cycle() } else { None };
-        self.refuse(number, place, cycle, lent)
     }
 
     /// Like `settle`, where a cycle would be written over the first entries of a row.
@@ -73,7 +73,7 @@ impl Graph {
         place: usize,
         row: &[u16],
         lent: Lent,
-    ) -> Result<(), Refusal> {
+    ) -> Result<(), Error> {
         match number {
             0 => Ok(()),
             7 => self.refuse(7, place, row.get(..place).map(<[u16]>::to_vec), lent),
@@ -88,25 +88,29 @@ impl Graph {
         place: usize,
         cycle: Option<Vec<u16>>,
         lent: Lent,
-    ) -> Result<(), Refusal> {
+    ) -> Result<(), Error> {
         let reason = match number {
             7 => self.cycle_words(cycle.as_deref().unwrap_or(&[])),
+            9 => self.bound_words(lent.bound)?,
             _ => self.words(number, place, lent),
         };
-        Err(Refusal {
+        Err(Error::Refused(Refusal {
             number,
             place,
             cycle,
             reason,
-        })
+        }))
     }
 
     /// The cycle that the library shows where a row is lent to it.
-    fn cycle(&self) -> Option<Vec<u16>> {
-        self.asap().err().and_then(|refusal| refusal.cycle)
+    fn cycle(&self) -> Result<Option<Vec<u16>>, Error> {
+        match self.asap() {
+            Err(Error::Refused(refusal)) => Ok(refusal.cycle),
+            answer => answer.map(|_| None),
+        }
     }
 
-    /// The reason of each number but 7, 12 and 13.
+    /// The reason of each number but 7, 9, 12 and 13.
     fn words(&self, number: usize, place: usize, lent: Lent) -> String {
         match number {
             1 => self.size_words(),
@@ -116,7 +120,6 @@ impl Graph {
             5 => "the output row is shorter than the number of operations".to_string(),
             6 => format!("type {} is in use and has no unit", self.kind_name(place)),
             8 => format!("the bound {} is above {LAST_STEP}", lent.bound),
-            9 => self.bound_words(lent.bound),
             10 => "the product of (mobility + 1) over all operations exceeds 1000000; a lower \
                    bound leaves fewer schedules"
                 .to_string(),
@@ -188,11 +191,10 @@ impl Graph {
     }
 
     /// Refusal 9: the bound and the latency that it falls short of.
-    fn bound_words(&self, bound: usize) -> String {
-        let latency = self.asap().map(|starts| self.latency(&starts).to_string());
-        format!(
-            "the bound {bound} is below the ASAP latency {}",
-            latency.unwrap_or_default()
-        )
+    fn bound_words(&self, bound: usize) -> Result<String, Error> {
+        let latency = self.latency(&self.asap()?);
+        Ok(format!(
+            "the bound {bound} is below the ASAP latency {latency}"
+        ))
     }
 }

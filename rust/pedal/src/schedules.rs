@@ -2,13 +2,14 @@
 
 use std::iter::FusedIterator;
 
-use crate::questions::ask;
+use crate::face::{self, Row, WrittenRow};
 use crate::refusal::Lent;
-use crate::{Graph, Refusal};
+use crate::{ffi, Error, Graph};
 
 /// An iterator over all lawful schedules of a graph, each a row of starts, in the order of words.
 ///
-/// Each schedule is searched for when it is asked for.
+/// Each schedule is searched for when it is asked for. Where the library can be asked no more,
+/// the iterator gives that error, and then ends.
 #[derive(Clone, Debug)]
 pub struct Schedules<'a> {
     /// The graph.
@@ -38,7 +39,7 @@ impl<'a> Schedules<'a> {
         graph: &'a Graph,
         units: &[u8],
         bound: usize,
-    ) -> Result<Schedules<'a>, Refusal> {
+    ) -> Result<Schedules<'a>, Error> {
         let mut schedules = Schedules {
             graph,
             units: units.to_vec(),
@@ -52,65 +53,49 @@ impl<'a> Schedules<'a> {
     }
 
     /// The least lawful schedule.
-    fn first(&self) -> Result<Option<Vec<u16>>, Refusal> {
+    fn first(&self) -> Result<Option<Vec<u16>>, Error> {
         let mut out = self.graph.row();
-        let answer = ask!(
-            pedal_first,
-            self.graph,
-            self.units.as_ptr(),
-            self.units.len(),
-            self.bound,
-            out.as_mut_ptr(),
-            out.len()
-        );
-        let (number, place) = (answer.refusal, answer.place);
-        self.graph.settle_row(number, place, &out, self.lent())?;
-        Ok((answer.found == 1).then_some(out))
+        let (graph, units) = (self.graph.rows(), Row::of(&self.units));
+        let answer = face::first(graph, units, self.bound, WrittenRow::of(&mut out))?;
+        self.found(answer, out)
     }
 
     /// The least lawful schedule after a row.
-    fn after(&self, row: &[u16]) -> Result<Option<Vec<u16>>, Refusal> {
+    fn after(&self, row: &[u16]) -> Result<Option<Vec<u16>>, Error> {
         let mut out = self.graph.row();
-        let answer = ask!(
-            pedal_next,
-            self.graph,
-            self.units.as_ptr(),
-            self.units.len(),
-            self.bound,
-            row.as_ptr(),
-            row.len(),
-            out.as_mut_ptr(),
-            out.len()
-        );
-        let (number, place) = (answer.refusal, answer.place);
-        self.graph.settle_row(number, place, &out, self.lent())?;
-        Ok((answer.found == 1).then_some(out))
+        let (graph, units) = (self.graph.rows(), Row::of(&self.units));
+        let (after, written) = (Row::of(row), WrittenRow::of(&mut out));
+        let answer = face::next(graph, units, self.bound, after, written)?;
+        self.found(answer, out)
     }
 
-    /// What a refusal may speak of.
-    fn lent(&self) -> Lent {
-        Lent {
+    /// The row that an answer found, if it found one.
+    fn found(&self, answer: ffi::Listed, out: Vec<u16>) -> Result<Option<Vec<u16>>, Error> {
+        let lent = Lent {
             bound: self.bound,
             ..Lent::units(&self.units)
-        }
+        };
+        let (number, place) = (answer.refusal, answer.place);
+        self.graph.settle_row(number, place, &out, lent)?;
+        Ok((answer.found == 1).then_some(out))
     }
 }
 
 impl Iterator for Schedules<'_> {
-    type Item = Vec<u16>;
+    type Item = Result<Vec<u16>, Error>;
 
     /// The next lawful schedule. The question is the one that the first schedule answered, so
     /// that it cannot be refused.
-    fn next(&mut self) -> Option<Vec<u16>> {
+    fn next(&mut self) -> Option<Result<Vec<u16>, Error>> {
         let found = match std::mem::replace(&mut self.place, Place::End) {
-            Place::First(row) => Some(row),
-            Place::After(row) => self.after(&row).ok().flatten(),
-            Place::End => None,
+            Place::First(row) => Ok(Some(row)),
+            Place::After(row) => self.after(&row),
+            Place::End => Ok(None),
         };
-        if let Some(row) = &found {
+        if let Ok(Some(row)) = &found {
             self.place = Place::After(row.clone());
         }
-        found
+        found.transpose()
     }
 }
 

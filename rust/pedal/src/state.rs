@@ -1,8 +1,8 @@
 //! The list schedule, watched step by step.
 
-use crate::questions::ask;
+use crate::face::{self, Row, WrittenRow};
 use crate::refusal::Lent;
-use crate::{Graph, Refusal, MOST_OPERATIONS};
+use crate::{Error, Graph, MOST_OPERATIONS};
 
 /// A list schedule in the making.
 #[derive(Clone, Copy, Debug, PartialEq, Eq)]
@@ -31,17 +31,10 @@ impl State {
 
     /// The state after the list schedule's rule at its step, one step further on; the same state
     /// if all operations are placed.
-    pub fn advance(self, graph: &Graph, units: &[u8]) -> Result<State, Refusal> {
+    pub fn advance(self, graph: &Graph, units: &[u8]) -> Result<State, Error> {
         let mut next = self;
-        let answer = ask!(
-            pedal_advance,
-            graph,
-            units.as_ptr(),
-            units.len(),
-            self.step,
-            next.starts.as_mut_ptr(),
-            next.starts.len()
-        );
+        let starts = WrittenRow::of(&mut next.starts);
+        let answer = face::advance(graph.rows(), Row::of(units), self.step, starts)?;
         let lent = Lent {
             step: self.step,
             ..Lent::units(units)

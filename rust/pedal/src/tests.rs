@@ -1,8 +1,6 @@
 //! The scope paper's cases and refusals through the safe face.
 
-use std::error::Error;
-
-use crate::{view, Finding, Graph, GraphBuilder, NameError, Refusal, State};
+use crate::{view, Broken, Error, Finding, Graph, GraphBuilder, NameError, Refusal, State};
 
 /// The edges of the eleven-operation graph, by the numbers in the operations' names.
 const ELEVEN_EDGES: [(usize, usize); 8] = [
@@ -42,12 +40,21 @@ fn uniform(count: usize, delay: u8, edges: &[(u16, u16)]) -> Graph {
 
 /// All schedules of a graph.
 fn all(graph: &Graph, units: &[u8], bound: usize) -> Vec<Vec<u16>> {
-    graph.schedules(units, bound).unwrap().collect()
+    let schedules = graph.schedules(units, bound).unwrap();
+    schedules.collect::<Result<_, Error>>().unwrap()
+}
+
+/// The refusal of a question that must have been refused.
+fn refusal<T: std::fmt::Debug>(answer: Result<T, Error>) -> Refusal {
+    match answer {
+        Err(Error::Refused(refusal)) => refusal,
+        other => panic!("not refused: {other:?}"),
+    }
 }
 
 /// The reason of a refusal, with its number.
-fn said<T: std::fmt::Debug>(answer: Result<T, Refusal>) -> String {
-    answer.unwrap_err().to_string()
+fn said<T: std::fmt::Debug>(answer: Result<T, Error>) -> String {
+    refusal(answer).to_string()
 }
 
 /// Cases 1 and 2: tables.
@@ -61,8 +68,8 @@ fn tables() {
     assert_eq!(graph.alap(4).unwrap(), late);
     let free = [0, 0, 0, 0, 0, 1, 1, 2, 2, 2, 2];
     assert_eq!(graph.mobility(4).unwrap(), free);
-    assert_eq!(graph.alap(3).unwrap_err().number, 9);
-    assert_eq!(graph.mobility(3).unwrap_err().number, 9);
+    assert_eq!(refusal(graph.alap(3)).number, 9);
+    assert_eq!(refusal(graph.mobility(3)).number, 9);
 }
 
 /// Case 3: the list schedule, at once and watched.
@@ -86,19 +93,19 @@ fn list_schedule() {
 #[test]
 fn cycles() {
     let ring = uniform(3, 1, &[(0, 1), (1, 2), (2, 0)]);
-    let refusal = ring.asap().unwrap_err();
-    assert_eq!((refusal.number, refusal.place), (7, 3));
-    assert_eq!(refusal.cycle, Some(vec![0, 1, 2]));
+    let whole = refusal(ring.asap());
+    assert_eq!((whole.number, whole.place), (7, 3));
+    assert_eq!(whole.cycle, Some(vec![0, 1, 2]));
     let tailed = uniform(3, 1, &[(1, 2), (2, 1), (1, 0)]);
     for refusal in [
-        tailed.asap().unwrap_err(),
-        tailed.alap(5).unwrap_err(),
-        tailed.mobility(5).unwrap_err(),
-        tailed.list(&[1]).unwrap_err(),
-        tailed.schedules(&[1], 5).unwrap_err(),
-        tailed.check(&[1], 5, &[1, 1, 1]).unwrap_err(),
-        tailed.peak(&[1, 1, 1]).unwrap_err(),
-        State::fresh().advance(&tailed, &[1]).unwrap_err(),
+        refusal(tailed.asap()),
+        refusal(tailed.alap(5)),
+        refusal(tailed.mobility(5)),
+        refusal(tailed.list(&[1])),
+        refusal(tailed.schedules(&[1], 5)),
+        refusal(tailed.check(&[1], 5, &[1, 1, 1])),
+        refusal(tailed.peak(&[1, 1, 1])),
+        refusal(State::fresh().advance(&tailed, &[1])),
     ] {
         assert_eq!((refusal.number, refusal.place), (7, 2));
         assert_eq!(refusal.cycle, Some(vec![1, 2]));
@@ -149,8 +156,8 @@ fn findings() {
 #[test]
 fn most_rows() {
     assert!(uniform(19, 1, &[]).schedules(&[19], 2).is_ok());
-    let refusal = uniform(20, 1, &[]).schedules(&[20], 2).unwrap_err();
-    assert_eq!((refusal.number, refusal.place), (10, 0));
+    let many = refusal(uniform(20, 1, &[]).schedules(&[20], 2));
+    assert_eq!((many.number, many.place), (10, 0));
 }
 
 /// A view is a part of the chosen table itself.
@@ -162,9 +169,9 @@ fn views() {
     let part = view(&a, &b, 1, 1, 3).unwrap();
     assert!(std::ptr::eq(part, &b[1..4]));
     assert_eq!(view(&a, &b, 0, 3, 0), Ok(&a[3..]));
-    assert_eq!(view(&a, &b, 0, 1, 3).unwrap_err().number, 13);
-    assert_eq!(view(&a, &b, 1, usize::MAX, 2).unwrap_err().number, 13);
-    assert_eq!(view(&a, &b, 2, 0, 0).unwrap_err().number, 12);
+    assert_eq!(refusal(view(&a, &b, 0, 1, 3)).number, 13);
+    assert_eq!(refusal(view(&a, &b, 1, usize::MAX, 2)).number, 13);
+    assert_eq!(refusal(view(&a, &b, 2, 0, 0)).number, 12);
 }
 
 /// Refusals 1 to 4 in words, by numbers.
@@ -279,11 +286,17 @@ fn views_in_words() {
     );
 }
 
-/// A refusal is an error like any other.
+/// A refusal and trouble on the way are errors like any other, and only one is a refusal.
 #[test]
-fn refusal_is_an_error() {
-    let error: Box<dyn Error> = Box::new(eleven().alap(3).unwrap_err());
-    assert!(error.to_string().starts_with("refusal 9: "));
+fn errors() {
+    let refused = eleven().alap(3).unwrap_err();
+    assert_eq!(refused.refusal().unwrap().number, 9);
+    let broken = Error::from(Broken::new("no engine"));
+    assert_eq!(broken.refusal(), None);
+    let words =
+        [refused, broken].map(|error| Box::<dyn std::error::Error>::from(error).to_string());
+    assert!(words[0].starts_with("refusal 9: "));
+    assert_eq!(words[1], "no engine");
 }
 
 /// Names unknown or used twice are errors, and leave the builder as it was.
@@ -319,5 +332,5 @@ fn too_many_names() {
     }
     let error = builder.operation("more", "k0", 1).unwrap_err();
     assert_eq!(error, NameError::TooManyOperations);
-    assert_eq!(builder.build().asap().unwrap_err().number, 1);
+    assert_eq!(refusal(builder.build().asap()).number, 1);
 }

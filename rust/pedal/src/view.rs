@@ -1,6 +1,7 @@
 //! Views of two channels' start tables.
 
-use crate::{ffi, Refusal};
+use crate::face::{self, Row};
+use crate::{Error, Refusal};
 
 /// A part of channel A's (0) or channel B's (1) table: that table's own memory.
 pub fn view<'a>(
@@ -9,24 +10,13 @@ pub fn view<'a>(
     channel: usize,
     first: usize,
     count: usize,
-) -> Result<&'a [u16], Refusal> {
-    // SAFETY: both tables go with their own lengths, outlive the call, and are only read.
-    let part = unsafe {
-        ffi::pedal_view(
-            a.as_ptr(),
-            a.len(),
-            b.as_ptr(),
-            b.len(),
-            channel,
-            first,
-            count,
-        )
-    };
+) -> Result<&'a [u16], Error> {
+    let part = face::view(Row::of(a), Row::of(b), channel, first, count)?;
     let table = if channel == 0 { a } else { b };
     match part.refusal {
         0 => Ok(&table[part.start..][..part.length]),
-        12 => Err(channel_refusal(channel)),
-        number => Err(extent_refusal(number, table.len(), first, count)),
+        12 => Err(channel_refusal(channel).into()),
+        number => Err(extent_refusal(number, table.len(), first, count).into()),
     }
 }
 

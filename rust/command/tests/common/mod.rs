@@ -5,7 +5,7 @@ use std::path::PathBuf;
 use std::process::{Child, Command, Stdio};
 
 /// How a run of the command ended.
-#[derive(Debug)]
+#[derive(Debug, PartialEq, Eq)]
 pub struct Run {
     /// The exit status.
     pub status: i32,
@@ -37,14 +37,19 @@ pub fn finish(child: Child) -> Run {
     }
 }
 
-/// Runs the command with bytes as its standard input.
-pub fn run_bytes(words: &[&str], input: &[u8]) -> Run {
-    let mut child = command(words).spawn().expect("the command starts");
+/// Runs a command with bytes as its standard input.
+pub fn feed(mut command: Command, input: &[u8]) -> Run {
+    let mut child = command.spawn().expect("the command starts");
     let mut pipe = child.stdin.take().expect("a pipe");
     // The command may stop reading before the end.
     let _ = pipe.write_all(input);
     drop(pipe);
     finish(child)
+}
+
+/// Runs the command with bytes as its standard input.
+pub fn run_bytes(words: &[&str], input: &[u8]) -> Run {
+    feed(command(words), input)
 }
 
 /// Runs the command with a text as its standard input.

@@ -1,0 +1,5 @@
+pub mod Reading
+pub mod Asking
+pub mod Replying
+pub mod Dispatching
+pub mod Laying
