@@ -18,8 +18,8 @@ use Rattle.model.specs.Limits as limit
 use Rattle.model.specs.Order.{source}
 use Rattle.model.specs.Graph.{Graph, Sound, order, many, typeOf}
 use Rattle.model.specs.Use.{runs}
-use Rattle.model.specs.Rule.{candidate, inUse, ahead, candidatesAhead, startsNow, pickStart, stepped}
-use Rattle.theory.specs.list.OneStep.{Finished, uses, candidate-is, is-candidate, ahead-linear, starts-is, is-starts, starts-unplaced, stepped-long, starts-at, stays-at, rest-stays, typed, Front, front-filled, starter, is-starter}
+use Rattle.model.specs.Rule.{Finished, candidate, inUse, ahead, candidatesAhead, startsNow, pickStart, stepped}
+use Rattle.theory.specs.list.OneStep.{uses, candidate-is, is-candidate, ahead-linear, starts-is, is-starts, starts-unplaced, stepped-long, starts-at, stays-at, rest-stays, typed, Front, front-filled, starter, is-starter}
 use Rattle.model.specs.Scheduling.{Moves}
 use Rattle.list_step.specs.CountsByValue.{CountsByValue}
 use Rattle.list_step.specs.Turn.{usesAt}
