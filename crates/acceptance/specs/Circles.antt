@@ -14,7 +14,7 @@ use Rattle.maths.specs.Rows.{at}
 use Rattle.maths.specs.Count.{every}
 use Rattle.model.specs.Order.{Order, size, edgeCount, source, target, Edge, Walk, one, more, Kept}
 use Rattle.model.specs.Graph.{Graph, order}
-use Rattle.model.specs.Cycle.{Back, Since, Shown}
+use Rattle.model.specs.Cycle.{Back, Shown}
 use Rattle.acceptance.specs.Free.{plainGraph, twoStarts, below-one, below-two}
 
 -- a row of three
@@ -104,16 +104,10 @@ ring-shown = record {
     inside = omega arith;
     again = ring-back 0 (omega arith);
   };
-  long = refl;
-  begins = record {
-    inside = omega arith;
-    holds = record { place = 0; late = omega arith; inside = omega arith; is = refl };
-    none-before = λ k l. absurd (omega arith);
-  };
-  along = λ k l.
-      below-two (λ (k : ℕ). Back (order ring) (at (three 0 1 2) (k + 1)) (at (three 0 1 2) k)) (ring-back 0 (omega arith)) (ring-back 1 (omega arith))
-      k (omega arith);
-  closes = ring-back 2 (omega arith);
+  place = 2;
+  inside = omega arith;
+  is = refl;
+  lowest = λ k l. omega arith;
 }
 
 -- ---- case 7: 1→2, 2→1, 1→0. 0 is on no cycle, but is reached from one
@@ -155,18 +149,8 @@ tail-shown = record {
     inside = omega arith;
     again = tail-back 0 (omega arith);
   };
-  long = refl;
-  begins = record {
-    inside = omega arith;
-    holds = record { place = 1; late = omega arith; inside = omega arith; is = refl };
-    none-before = λ k l h. not-since k l h;
-  };
-  along = λ k l.
-      below-one (λ (k : ℕ). Back (order tail) (at (twoStarts 1 2) (k + 1)) (at (twoStarts 1 2) k)) (tail-back 0 (omega arith)) k (omega arith);
-  closes = tail-back 1 (omega arith);
+  place = 1;
+  inside = omega arith;
+  is = refl;
+  lowest = below-two (λ (k : ℕ). 1 ≤ at (twoStarts 1 2) k) (omega arith) (omega arith);
 }
-  where
-    not-since : (k : ℕ) → k < 1 → Since (three 0 1 2) 1 k → ⊥
-    not-since k l h =
-        below-three (λ (p : ℕ). 1 ≤ p → at (three 0 1 2) p ≡ k → ⊥) (λ m e. omega arith) (λ m e. omega arith) (λ m e. omega arith)
-        (h .place) (h .inside) (h .late) (h .is)

@@ -14,15 +14,15 @@ use Rattle.model.specs.declared.Finding.the-variants as found
 
 -- the tally can hold the schedule: every type has its units, every operation a last step, nothing starts before step 1, and every finish is
 -- within a bound that is within the last step
-pub record Tallyable (delays types units : List ℕ) (bound : ℕ) (t : List ℕ) : Type 0 where
-  pub few : length delays ≤ limit.operations
+pub record Tallyable (busy types units : List ℕ) (bound : ℕ) (t : List ℕ) : Type 0 where
+  pub few : length busy ≤ limit.operations
   pub few-kinds : length units ≤ limit.kinds
-  pub even-types : length delays ≡ length types
-  pub even-starts : length t ≡ length delays
-  pub type-in : (i : ℕ) → i < length delays → at types i < length units
-  pub positive : (i : ℕ) → i < length delays → 1 ≤ at delays i
-  pub from-one : (i : ℕ) → i < length delays → 1 ≤ at t i
-  pub ends : (i : ℕ) → i < length delays → at t i + at delays i ≤ bound + 1
+  pub even-types : length busy ≡ length types
+  pub even-starts : length t ≡ length busy
+  pub type-in : (i : ℕ) → i < length busy → at types i < length units
+  pub positive : (i : ℕ) → i < length busy → 1 ≤ at busy i
+  pub from-one : (i : ℕ) → i < length busy → 1 ≤ at t i
+  pub ends : (i : ℕ) → i < length busy → at t i + at busy i ≤ bound + 1
   pub bound-in : bound ≤ limit.steps
 
 -- no over-use at any step, or the first

@@ -13,7 +13,7 @@ ghost use lib.ListN.{length};
 ghost use Rattle.maths.specs.Cases.{Tells};
 ghost use Rattle.model.specs.Limits as limit;
 ghost use Rattle.model.specs.Order.{ordered, Closed};
-ghost use Rattle.model.specs.Graph.{lent};
+ghost use Rattle.model.specs.Graph.{graphOf, lent, BusySound};
 ghost use Rattle.model.specs.Refusals.{First, large-bound};
 ghost use Rattle.model.specs.Answers.{refusalOf};
 ghost use Rattle.model.specs.Faults as fault;
@@ -56,30 +56,30 @@ fn first_over(tally: &[u16; CELLS], units: &[u8], bound: usize) -> Finding
     found
 }
 
-// The over-use of a schedule that is timely: its earliest step, and there the lowest type, whatever the edges are.
-fn over_use(delays: &[u8], types: &[u8], units: &[u8], bound: usize, starts: &[u16]) -> Finding
-    requires { ⌜ Tallyable (now delays) (now types) (now units) bound (now starts) ⌝ }
-    ensures { λ r. ⌜ ((from to : List ℕ) → Overs (lent (now (delays .entry)) (now (types .entry)) (length (now (units .entry))) from to) (now (units .entry)) (now (starts .entry)) r) ⌝ }
+// The over-use of a schedule that is timely: its earliest step, and there the lowest type, whatever the delays and edges are.
+fn over_use(busy: &[u8], types: &[u8], units: &[u8], bound: usize, starts: &[u16]) -> Finding
+    requires { ⌜ Tallyable (now busy) (now types) (now units) bound (now starts) ⌝ }
+    ensures { λ r. ⌜ ((delays from to : List ℕ) → length delays ≡ length (now (busy .entry)) → Overs (graphOf delays (now (busy .entry)) (now (types .entry)) (length (now (units .entry))) from to) (now (units .entry)) (now (starts .entry)) r) ⌝ }
 {
     let mut tally = [0u16; CELLS];
     let mut i = 0;
-    while i < delays.len() {
+    while i < busy.len() {
         let start = starts[i] as usize;
         mark(
             &mut tally,
             types[i] as usize,
             start,
-            start + delays[i] as usize - 1,
+            start + busy[i] as usize - 1,
         );
         i += 1;
     }
     first_over(&tally, units, bound)
 }
 
-// The lowest operation with a start of 0 or a finish past the bound, or the number of operations, whatever the types and edges are.
+// The lowest operation with a start of 0 or a finish past the bound, or the number of operations, whatever the busy times, types and edges are.
 fn untimely(delays: &[u8], bound: usize, starts: &[u16]) -> usize
     requires { ⌜ length (now starts) ≡ length (now delays) ⌝ }
-    ensures { λ r. ⌜ ((types : List ℕ) (kinds : ℕ) (from to : List ℕ) → LowestOr (fault.Untimely (lent (now (delays .entry)) types kinds from to) bound (now (starts .entry))) (length (now (delays .entry))) r) ⌝ }
+    ensures { λ r. ⌜ ((busy types : List ℕ) (kinds : ℕ) (from to : List ℕ) → LowestOr (fault.Untimely (graphOf (now (delays .entry)) busy types kinds from to) bound (now (starts .entry))) (length (now (delays .entry))) r) ⌝ }
 {
     let mut i = 0;
     while i < delays.len() {
@@ -102,11 +102,11 @@ fn too_early(start: u16, earlier: u16, delay: u8) -> bool
     (start as usize) < earlier as usize + delay as usize
 }
 
-// The lowest edge whose end starts before its beginning is over, or the number of edges, whatever the types are.
+// The lowest edge whose end starts before its beginning is over, or the number of edges, whatever the busy times and types are.
 fn broken(delays: &[u8], from: &[u16], to: &[u16], starts: &[u16]) -> usize
     requires { ⌜ Closed (ordered (now delays) (now from) (now to)) ⌝ }
     requires { ⌜ length (now starts) ≡ length (now delays) ⌝ }
-    ensures { λ r. ⌜ ((types : List ℕ) (kinds : ℕ) → LowestOr (fault.Broken (lent (now (delays .entry)) types kinds (now (from .entry)) (now (to .entry))) (now (starts .entry))) (length (now (from .entry))) r) ⌝ }
+    ensures { λ r. ⌜ ((busy types : List ℕ) (kinds : ℕ) → LowestOr (fault.Broken (graphOf (now (delays .entry)) busy types kinds (now (from .entry)) (now (to .entry))) (now (starts .entry))) (length (now (from .entry))) r) ⌝ }
 {
     let mut e = 0;
     while e < from.len() {
@@ -120,9 +120,10 @@ fn broken(delays: &[u8], from: &[u16], to: &[u16], starts: &[u16]) -> usize
     e
 }
 
-// What is found in a schedule that is not refused.
+// What is found in a schedule that is not refused: starts, finishes and edges go by the delays, over-use by the busy times.
 fn judge(
     delays: &[u8],
+    busy: &[u8],
     types: &[u8],
     kinds: usize,
     from: &[u16],
@@ -131,8 +132,9 @@ fn judge(
     bound: usize,
     starts: &[u16],
 ) -> Finding
-    requires { ⌜ Askable (lent (now delays) (now types) kinds (now from) (now to)) (now units) bound (now starts) ⌝ }
-    ensures { λ r. ⌜ Settled (lent (now (delays .entry)) (now (types .entry)) kinds (now (from .entry)) (now (to .entry))) (now (units .entry)) bound (now (starts .entry)) r ⌝ }
+    requires { ⌜ Askable (graphOf (now delays) (now busy) (now types) kinds (now from) (now to)) (now units) bound (now starts) ⌝ }
+    requires { ⌜ BusySound (graphOf (now delays) (now busy) (now types) kinds (now from) (now to)) ⌝ }
+    ensures { λ r. ⌜ Settled (graphOf (now (delays .entry)) (now (busy .entry)) (now (types .entry)) kinds (now (from .entry)) (now (to .entry))) (now (units .entry)) bound (now (starts .entry)) r ⌝ }
 {
     let operation = untimely(delays, bound, starts);
     if operation < delays.len() {
@@ -142,7 +144,7 @@ fn judge(
     if edge < from.len() {
         return Finding::Broken(edge);
     }
-    over_use(delays, types, units, bound, starts)
+    over_use(busy, types, units, bound, starts)
 }
 
 // Refusal 8: the bound is past the last step.
@@ -199,7 +201,8 @@ pub fn check(
             finding: Finding::Refused(why),
         },
         Answer::Done => Verdict {
-            finding: judge(delays, types, kinds, from, to, units, bound, starts),
+            // an operation keeps its unit for its delay
+            finding: judge(delays, delays, types, kinds, from, to, units, bound, starts),
         },
     }
 }

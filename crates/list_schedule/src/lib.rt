@@ -100,6 +100,7 @@ fn schedule(
         }
         list_step::apply(
             delays,
+            delays,
             types,
             from,
             to,
@@ -131,6 +132,7 @@ fn next_starts(
     let ranked = list_step::priority::ranks(delays, from, to);
     let mut next = starts;
     list_step::apply(
+        delays,
         delays,
         types,
         from,

@@ -16,10 +16,10 @@ use Rattle.maths.specs.Count.{bit, bit-le, count, count-le}
 use Rattle.maths.specs.Counting.{sum-change-below, count-same, count-zero}
 use Rattle.model.specs.Limits as limit
 use Rattle.model.specs.Order.{source}
-use Rattle.model.specs.Graph.{Graph, Sound, order, many, typeOf}
+use Rattle.model.specs.Graph.{Graph, Sound, BusySound, order, many, typeOf}
 use Rattle.model.specs.Use.{runs}
-use Rattle.model.specs.Rule.{candidate, inUse, ahead, candidatesAhead, startsNow, pickStart, stepped}
-use Rattle.theory.specs.list.OneStep.{Finished, uses, candidate-is, is-candidate, ahead-linear, starts-is, is-starts, starts-unplaced, stepped-long, starts-at, stays-at, rest-stays, typed, Front, front-filled, starter, is-starter}
+use Rattle.model.specs.Rule.{Finished, candidate, inUse, ahead, candidatesAhead, startsNow, pickStart, stepped}
+use Rattle.theory.specs.list.OneStep.{uses, candidate-is, is-candidate, ahead-linear, starts-is, is-starts, starts-unplaced, stepped-long, starts-at, stays-at, rest-stays, typed, Front, front-filled, starter, is-starter}
 use Rattle.model.specs.Scheduling.{Moves}
 use Rattle.list_step.specs.CountsByValue.{CountsByValue}
 use Rattle.list_step.specs.Turn.{usesAt}
@@ -150,10 +150,10 @@ pub record Passing (g : Graph) (units row t : List ℕ) (l : ℕ) (used x : List
   pub rest : (i : ℕ) → many g ≤ i → at x i ≡ at t i
   pub counts : (k : ℕ) → k < limit.kinds → at used k ≡ inUse g t k l + count (passed g (priority .labels) units t l k p) (many g)
 
-pub passing-none : {g : Graph} {units row t : List ℕ} {l : ℕ} {used : List ℕ} → Sound g → length t ≡ limit.operations → Priority g row
-    → CountsByValue (at (g .types)) (usesAt (g .busy) t l) limit.kinds used (many g) → Passing g units row t l used t 0
+pub passing-none : {g : Graph} {units row t : List ℕ} {l : ℕ} {used : List ℕ} → Sound g → BusySound g → length t ≡ limit.operations → Priority g row
+    → CountsByValue (at (g .types)) (usesAt (g .busy) t l) limit.kinds used (length (g .busy)) → Passing g units row t l used t 0
 unfolding passed
-passing-none {g} {units} {row} {t} {l} {used} s long h b = record {
+passing-none {g} {units} {row} {t} {l} {used} s busy long h b = record {
   sound = s;
   whole = long;
   priority = h;
@@ -166,7 +166,7 @@ passing-none {g} {units} {row} {t} {l} {used} s long h b = record {
   counts = λ k u.
       omega (
         arith,
-        used-counts g t l used b k u,
+        used-counts g t l used (subst (CountsByValue (at (g .types)) (usesAt (g .busy) t l) limit.kinds used) (busy .even) b) k u,
         count-zero (passed g (h .labels) units t l k 0) (many g)
             (λ j v q. omega (arith, ltb-true (rankOf (h .labels) (many g) j) 0 (and-right _ _ q))),
       );

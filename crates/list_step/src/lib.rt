@@ -14,7 +14,7 @@ ghost use Rattle.maths.specs.Rows.{at};
 ghost use Rattle.maths.specs.Count.{bit};
 ghost use Rattle.model.specs.Limits as limit;
 ghost use Rattle.model.specs.Order.{Closed, ordered};
-ghost use Rattle.model.specs.Graph.{Sound, lent};
+ghost use Rattle.model.specs.Graph.{Sound, BusySound, graphOf};
 ghost use Rattle.model.specs.Rule.{candidate, pickStart};
 ghost use Rattle.edge_links.specs.Linking.{Linked};
 ghost use Rattle.model.specs.Scheduling.{Moves};
@@ -63,7 +63,7 @@ fn is_candidate(
 ) -> usize
     requires { ⌜ Walkable (ordered (now delays) (now from) (now to)) (now links) ⌝ }
     requires { ⌜ i < length (now delays) ⌝ }
-    ensures { λ r. ⌜ ((types : List ℕ) (kinds : ℕ) → r ≡ bit (candidate (lent (now (delays .entry)) types kinds (now (from .entry)) (now (to .entry))) (now (starts .entry)) step i)) ⌝ }
+    ensures { λ r. ⌜ ((busy types : List ℕ) (kinds : ℕ) → r ≡ bit (candidate (graphOf (now (delays .entry)) busy types kinds (now (from .entry)) (now (to .entry))) (now (starts .entry)) step i)) ⌝ }
 {
     if starts[i] != 0 {
         return 0;
@@ -110,7 +110,7 @@ fn takes(
 ) -> usize
     requires { ⌜ Walkable (ordered (now delays) (now from) (now to)) (now links) ⌝ }
     requires { ⌜ i < length (now delays) ⌝ }
-    ensures { λ r. ⌜ ((types : List ℕ) (kinds : ℕ) → r ≡ bit (takesAt (lent (now (delays .entry)) types kinds (now (from .entry)) (now (to .entry))) (now (starts .entry)) step i used units)) ⌝ }
+    ensures { λ r. ⌜ ((busy types : List ℕ) (kinds : ℕ) → r ≡ bit (takesAt (graphOf (now (delays .entry)) busy types kinds (now (from .entry)) (now (to .entry))) (now (starts .entry)) step i used units)) ⌝ }
 {
     if used < units as usize {
         return is_candidate(delays, from, to, links, starts, step, i);
@@ -131,8 +131,10 @@ fn chosen(now: usize, step: usize, old: u16) -> u16
 
 // The rule at one step: each operation has its turn in the order of priority, and a candidate starts while its type has a unit left. What has
 // started in this step is not over in it, so who is a candidate does not change on the way.
+// Who is over goes by the delays, who runs by the busy times.
 pub fn apply(
     delays: &[u8],
+    busy: &[u8],
     types: &[u8],
     from: &[u16],
     to: &[u16],
@@ -142,14 +144,15 @@ pub fn apply(
     step: usize,
     starts: &mut [u16; OPERATIONS],
 )
-    requires { ⌜ Sound (lent (now delays) (now types) (length (now units)) (now from) (now to)) ⌝ }
+    requires { ⌜ Sound (graphOf (now delays) (now busy) (now types) (length (now units)) (now from) (now to)) ⌝ }
     requires { ⌜ Linked (now to) (now links) ⌝ }
-    requires { ⌜ Priority (lent (now delays) (now types) (length (now units)) (now from) (now to)) (now ranked) ⌝ }
+    requires { ⌜ Priority (graphOf (now delays) (now busy) (now types) (length (now units)) (now from) (now to)) (now ranked) ⌝ }
     requires { ⌜ (1 ≤ step) × (step ≤ limit.steps) ⌝ }
     requires { ⌜ length (now starts) ≡ limit.operations ⌝ }
-    ensures { λ r. ⌜ Moves (lent (now (delays .entry)) (now (types .entry)) (length (now (units .entry))) (now (from .entry)) (now (to .entry))) (now (units .entry)) (now (starts .entry)) step (now (starts .exit)) (step + 1) ⌝ }
+    requires { ⌜ BusySound (graphOf (now delays) (now busy) (now types) (length (now units)) (now from) (now to)) ⌝ }
+    ensures { λ r. ⌜ Moves (graphOf (now (delays .entry)) (now (busy .entry)) (now (types .entry)) (length (now (units .entry))) (now (from .entry)) (now (to .entry))) (now (units .entry)) (now (starts .entry)) step (now (starts .exit)) (step + 1) ⌝ }
 {
-    let mut used = in_use(delays, types, starts, step);
+    let mut used = in_use(busy, types, starts, step);
     let mut p = 0;
     while p < types.len() {
         let i = ranked[p] as usize;

@@ -56,7 +56,7 @@ fn fitting(
     let mut step = start;
     while step <= last {
         starts[i] = step;
-        if fits(delays, types, from, to, links, units, starts, i) {
+        if fits(delays, delays, types, from, to, links, units, starts, i) {
             return step;
         }
         step += 1;

@@ -1,6 +1,7 @@
 pub mod Cases
 pub mod Tests
 pub mod Rows
+pub mod Turning
 pub mod Sum
 pub mod Count
 pub mod Lowest

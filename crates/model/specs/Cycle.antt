@@ -1,9 +1,10 @@
 -- The cycle shown: from the lowest kept number again and again to the lowest kept predecessor; the first operation met twice closes the cycle.
 use mathlib.Core.Path.{_≡_}
-use mathlib.Core.List.{List}
+use mathlib.Core.List.{List, reverse}
 use Prim.Native.Nat.{ℕ, _+_, _-_, _<_, _≤_}
-use lib.ListN.{length}
+use lib.ListN.{length, drop}
 use Rattle.maths.specs.Rows.{at}
+use Rattle.maths.specs.Turning.{beginningAt}
 use Rattle.maths.specs.Lowest.{Lowest}
 use Rattle.model.specs.Order.{Order, size, Edge, Kept}
 
@@ -24,20 +25,13 @@ pub record Trail (o : Order) (met : List ℕ) (twice : ℕ) : Type 0 where
   pub inside : twice < length met
   pub again : Back o (at met (length met - 1)) (at met twice)
 
--- i was met at `twice` or later
-pub record Since (met : List ℕ) (twice i : ℕ) : Type 0 where
-  pub place : ℕ
-  pub late : twice ≤ place
-  pub inside : place < length met
-  pub is : at met place ≡ i
-
--- the cycle is what was met since, in edge direction: each is the lowest kept predecessor of the one written after it,
--- and the last of the first. It begins with its lowest number
+-- the cycle shown: the operations met from the repeated one on, turned round, since the way back is against the edges, and turned to
+-- begin with the lowest of them
 pub record Shown (o : Order) (cycle : List ℕ) : Type 0 where
   pub met : List ℕ
   pub twice : ℕ
   pub trail : Trail o met twice
-  pub long : length cycle + twice ≡ length met
-  pub begins : Lowest (Since met twice) (size o) (at cycle 0)
-  pub along : (k : ℕ) → k + 1 < length cycle → Back o (at cycle (k + 1)) (at cycle k)
-  pub closes : Back o (at cycle 0) (at cycle (length cycle - 1))
+  pub place : ℕ
+  pub inside : place < length cycle
+  pub is : cycle ≡ beginningAt place (reverse (drop twice met))
+  pub lowest : (k : ℕ) → k < length cycle → at cycle 0 ≤ at cycle k

@@ -16,9 +16,13 @@ pub record Graph : Type 0 where
   pub from : List ℕ
   pub to : List ℕ
 
--- the graph of the five things that a caller lends
+-- the graph of six things: delays, busy times, types, the number of types, and the two ends of the edges
+abbrev pub graphOf : List ℕ → List ℕ → List ℕ → ℕ → List ℕ → List ℕ → Graph
+graphOf d b t k f o = record { delays = d; busy = b; types = t; kinds = k; from = f; to = o }
+
+-- the graph of the five things that a caller lends: an operation keeps its unit for its delay
 abbrev pub lent : List ℕ → List ℕ → ℕ → List ℕ → List ℕ → Graph
-lent d t k f o = record { delays = d; busy = d; types = t; kinds = k; from = f; to = o }
+lent d t k f o = graphOf d d t k f o
 
 -- what precedence reads of it
 abbrev pub order : Graph → Order
@@ -54,3 +58,9 @@ pub record Sound (g : Graph) : Type 0 where
   pub type-in : (i : ℕ) → i < many g → typeOf g i < g .kinds
   pub source-in : (e : ℕ) → e < edgesOf g → at (g .from) e < many g
   pub target-in : (e : ℕ) → e < edgesOf g → at (g .to) e < many g
+
+-- what unit use reads is sound: a busy time for each operation, from 1 to its delay
+pub record BusySound (g : Graph) : Type 0 where
+  pub even : length (g .busy) ≡ many g
+  pub from-one : (i : ℕ) → i < many g → 1 ≤ busyTime g i
+  pub to-delay : (i : ℕ) → i < many g → busyTime g i ≤ delay g i

@@ -29,20 +29,19 @@ pub record Labels (g : Graph) (labels : List ℕ) : Type 0 where
   pub each : (i : ℕ) → i < many g → Label g i (at labels i)
 
 -- ---- who is a candidate, who runs
+-- a start of 0 is an operation that is not placed
 abbrev pub placed : List ℕ → ℕ → Bool
 placed t i = ltb 0 (at t i)
 
--- i is placed with t + d ≤ l
-unfoldable pub finished : Graph → List ℕ → ℕ → ℕ → Bool
-finished g t l i = placed t i and leb (at t i + delay g i) l
+-- i is over at step l: placed with t + d ≤ l
+pub record Finished (g : Graph) (t : List ℕ) (l i : ℕ) : Type 0 where
+  pub placed : 1 ≤ at t i
+  pub ended : at t i + delay g i ≤ l
 
--- edge e leads to i from an operation that is not placed with t + d ≤ l
-unfoldable pub blocks : Graph → List ℕ → ℕ → ℕ → ℕ → Bool
-blocks g t l i e = eqb (target (order g) e) i and neg (finished g t l (source (order g) e))
-
--- a candidate is an unplaced operation all of whose predecessors are placed with t + d ≤ l
-unfoldable pub candidate : Graph → List ℕ → ℕ → ℕ → Bool
-candidate g t l i = eqb (at t i) 0 and eqb (count (blocks g t l i) (edgesOf g)) 0
+-- a candidate at step l is an unplaced operation all of whose predecessors are placed with t + d ≤ l
+pub record Candidate (g : Graph) (t : List ℕ) (l i : ℕ) : Type 0 where
+  pub unplaced : at t i ≡ 0
+  pub ready : (e : ℕ) → e < edgesOf g → target (order g) e ≡ i → Finished g t l (source (order g) e)
 
 -- how many operations of type k are running: placed, and t ≤ l < t + busy
 abbrev pub inUse : Graph → List ℕ → ℕ → ℕ → ℕ
@@ -52,6 +51,33 @@ inUse g t k l = count (λ i. placed t i and runs g t k l i) (many g)
 -- j comes before i: a larger label, then a lower number
 unfoldable pub ahead : List ℕ → ℕ → ℕ → Bool
 ahead labels j i = ltb (at labels i) (at labels j) or (eqb (at labels j) (at labels i) and ltb j i)
+
+-- i may start next: it is a candidate that is still waiting, no candidate of its type that is still waiting comes before it, and fewer than
+-- the type's units are running. Who is a candidate is asked of the starts as they were lent, `old`; who waits and who runs, of the starts so far, t
+pub record Next (g : Graph) (labels units old : List ℕ) (l : ℕ) (t : List ℕ) (i : ℕ) : Type 0 where
+  pub inside : i < many g
+  pub candidate-still : Candidate g old l i
+  pub waiting : at t i ≡ 0
+  pub first : (j : ℕ) → j < many g → Candidate g old l j → at t j ≡ 0 → typeOf g j ≡ typeOf g i → ahead labels j i ≡ true → ⊥
+  pub room : inUse g t (typeOf g i) l < at units (typeOf g i)
+
+-- the rule at step l: candidates start one after another, until no more can
+pub data OneByOne (g : Graph) (labels units old : List ℕ) (l : ℕ) : List ℕ → List ℕ → Type 0 where
+  stop : {t : List ℕ} → ((i : ℕ) → Next g labels units old l t i → ⊥) → OneByOne g labels units old l t t
+  start : {t u : List ℕ} {i : ℕ} → Next g labels units old l t i → OneByOne g labels units old l (set t i l) u → OneByOne g labels units old l t u
+
+-- ---- the rule at once, by counting. It is what contracts say; that starting one after another ends exactly there is the theorem `one-by-one`
+-- the test of `Finished`
+unfoldable pub finished : Graph → List ℕ → ℕ → ℕ → Bool
+finished g t l i = placed t i and leb (at t i + delay g i) l
+
+-- edge e leads to i from an operation that is not placed with t + d ≤ l
+unfoldable pub blocks : Graph → List ℕ → ℕ → ℕ → ℕ → Bool
+blocks g t l i e = eqb (target (order g) e) i and neg (finished g t l (source (order g) e))
+
+-- the test of `Candidate`: unplaced, and no edge blocks it
+unfoldable pub candidate : Graph → List ℕ → ℕ → ℕ → Bool
+candidate g t l i = eqb (at t i) 0 and eqb (count (blocks g t l i) (edgesOf g)) 0
 
 -- how many candidates of i's type come before i
 abbrev pub candidatesAhead : Graph → List ℕ → List ℕ → ℕ → ℕ → ℕ
@@ -65,6 +91,7 @@ startsNow g labels units t l i =
     and (candidate g t l i
     and ltb (inUse g t (typeOf g i) l + candidatesAhead g labels t l i) (at units (typeOf g i)))
 
+-- the new start where it starts, else the old one
 abbrev pub pickStart : Bool → ℕ → ℕ → ℕ
 pickStart true new old = new
 pickStart false new old = old
@@ -90,18 +117,3 @@ pub record ListStarts (g : Graph) (units t : List ℕ) : Type 0 where
   pub rounds : ℕ
   pub all : AllPlaced g (after g labels units rounds)
   pub is : t ≡ take (many g) (after g labels units rounds)
-
--- ---- the rule in 01's own words: candidates start one after another
--- i may start next: no candidate of its type that is still unplaced comes before it, and fewer than the type's units are running.
--- Who is a candidate is asked of the starts as they were lent, `old`; who is running of the starts so far, t
-pub record Next (g : Graph) (labels units old : List ℕ) (l : ℕ) (t : List ℕ) (i : ℕ) : Type 0 where
-  pub inside : i < many g
-  pub candidate-still : candidate g old l i ≡ true
-  pub waiting : at t i ≡ 0
-  pub first : (j : ℕ) → j < many g → candidate g old l j ≡ true → at t j ≡ 0 → typeOf g j ≡ typeOf g i → ahead labels j i ≡ true → ⊥
-  pub room : inUse g t (typeOf g i) l < at units (typeOf g i)
-
--- one after another until nothing more can start
-pub data OneByOne (g : Graph) (labels units old : List ℕ) (l : ℕ) : List ℕ → List ℕ → Type 0 where
-  stop : {t : List ℕ} → ((i : ℕ) → Next g labels units old l t i → ⊥) → OneByOne g labels units old l t t
-  start : {t u : List ℕ} {i : ℕ} → Next g labels units old l t i → OneByOne g labels units old l (set t i l) u → OneByOne g labels units old l t u

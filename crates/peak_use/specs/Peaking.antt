@@ -8,11 +8,11 @@ use Rattle.model.specs.Limits as limit
 use Rattle.model.specs.Graph.{Graph}
 use Rattle.model.specs.Use.{Peak}
 
--- as many types and starts as operations, and every type below the limit
-pub record Countable (delays types t : List ℕ) : Type 0 where
-  pub even-types : length delays ≡ length types
-  pub even-starts : length t ≡ length delays
-  pub type-in : (i : ℕ) → i < length delays → at types i < limit.kinds
+-- as many types and starts as busy times, and every type below the limit
+pub record Countable (busy types t : List ℕ) : Type 0 where
+  pub even-types : length busy ≡ length types
+  pub even-starts : length t ≡ length busy
+  pub type-in : (i : ℕ) → i < length busy → at types i < limit.kinds
 
 -- a number for each type that a graph may have: its peak
 pub record AllPeaks (g : Graph) (t counts : List ℕ) : Type 0 where

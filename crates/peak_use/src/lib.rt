@@ -5,7 +5,8 @@ use model::limits::KINDS;
 ghost use mathlib.Core.Path.{_≡_};
 ghost use mathlib.Core.List.{List};
 ghost use Prim.Native.Nat.{ℕ, max};
-ghost use Rattle.model.specs.Graph.{lent};
+ghost use lib.ListN.{length};
+ghost use Rattle.model.specs.Graph.{graphOf, lent};
 ghost use Rattle.model.specs.Refusals.{First};
 ghost use Rattle.model.specs.Answers.{refusalOf};
 ghost use Rattle.model.specs.Verdicts.{peakChecks, PeakAnswer};
@@ -21,16 +22,17 @@ fn larger(a: usize, b: usize) -> usize
     a
 }
 
-// For each type the largest number of its operations that are running at the start of one of them: no step has more.
-fn peaks(delays: &[u8], types: &[u8], starts: &[u16]) -> [usize; KINDS]
-    requires { ⌜ Countable (now delays) (now types) (now starts) ⌝ }
-    ensures { λ r. ⌜ ((kinds : ℕ) (from to : List ℕ) → AllPeaks (lent (now (delays .entry)) (now (types .entry)) kinds from to) (now (starts .entry)) r) ⌝ }
+// For each type the largest number of its operations that are running at the start of one of them: no step has more. Whatever the delays
+// and edges are.
+fn peaks(busy: &[u8], types: &[u8], starts: &[u16]) -> [usize; KINDS]
+    requires { ⌜ Countable (now busy) (now types) (now starts) ⌝ }
+    ensures { λ r. ⌜ ((delays : List ℕ) (kinds : ℕ) (from to : List ℕ) → length delays ≡ length (now (busy .entry)) → AllPeaks (graphOf delays (now (busy .entry)) (now (types .entry)) kinds from to) (now (starts .entry)) r) ⌝ }
 {
     let mut counts = [0usize; KINDS];
     let mut i = 0;
-    while i < delays.len() {
+    while i < busy.len() {
         let kind = types[i] as usize;
-        let now = unit_use::in_use(delays, types, starts, types[i], starts[i], delays.len());
+        let now = unit_use::in_use(busy, types, starts, types[i], starts[i], busy.len());
         counts[kind] = larger(counts[kind], now);
         i += 1;
     }
@@ -81,6 +83,7 @@ pub fn peak_use(
         },
         Answer::Done => Peaks {
             answer: Answer::Done,
+            // an operation keeps its unit for its delay
             counts: peaks(delays, types, starts),
         },
     }

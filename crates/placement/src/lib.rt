@@ -7,7 +7,7 @@ ghost use Prim.Native.Nat.{_+_, _≤_, _<_, max};
 ghost use lib.ListN.{length};
 ghost use Rattle.maths.specs.Cases.{Tells};
 ghost use Rattle.maths.specs.Rows.{at};
-ghost use Rattle.model.specs.Graph.{lent, Sound};
+ghost use Rattle.model.specs.Graph.{graphOf, Sound, BusySound};
 ghost use Rattle.edge_links.specs.Linking.{LinkableEnds, Linked};
 ghost use Rattle.unit_use.specs.FirstInUse.{firstInUse};
 ghost use Rattle.placement.specs.Fit.{highers, Calm, UnitsEnough, Fits};
@@ -121,9 +121,10 @@ pub fn higher_links(from: &[u16], to: &[u16]) -> [u16; LINKS]
 
 // Whether operation i stands where it may, given those placed before it. Only the edges whose higher end is i are looked at, along their links:
 // one with both ends below i was looked at when its higher end was placed, and one with an end above i comes later.
-// An operation keeps its unit for as long as its successors wait: its delay.
+// Edges go by the delays, units by the busy times.
 pub fn fits(
     delays: &[u8],
+    busy: &[u8],
     types: &[u8],
     from: &[u16],
     to: &[u16],
@@ -132,9 +133,10 @@ pub fn fits(
     starts: &[u16],
     i: usize,
 ) -> bool
-    requires { ⌜ (i < length (now delays)) × (i < length (now starts)) × Sound (lent (now delays) (now types) (length (now units)) (now from) (now to)) ⌝ }
+    requires { ⌜ (i < length (now delays)) × (i < length (now starts)) × Sound (graphOf (now delays) (now busy) (now types) (length (now units)) (now from) (now to)) ⌝ }
     requires { ⌜ Linked (highers (now from) (now to)) (now links) ⌝ }
-    ensures { λ r. ⌜ Tells r (Fits (lent (now (delays .entry)) (now (types .entry)) (length (now (units .entry))) (now (from .entry)) (now (to .entry))) (now (units .entry)) (now (starts .entry)) i) ⌝ }
+    requires { ⌜ BusySound (graphOf (now delays) (now busy) (now types) (length (now units)) (now from) (now to)) ⌝ }
+    ensures { λ r. ⌜ Tells r (Fits (graphOf (now (delays .entry)) (now (busy .entry)) (now (types .entry)) (length (now (units .entry))) (now (from .entry)) (now (to .entry))) (now (units .entry)) (now (starts .entry)) i) ⌝ }
 {
     let mut edge = links[i] as usize;
     while edge != 0 {
@@ -145,5 +147,5 @@ pub fn fits(
             return false;
         }
     }
-    room(delays, types, units, starts, i)
+    room(busy, types, units, starts, i)
 }

@@ -10,10 +10,14 @@ use Rattle.model.specs.Cycle.{Shown}
 use Rattle.theory.specs.cycle.OneTrail.{back-same, trail-place, trail-inside, trail-few}
 use Rattle.theory.specs.cycle.TurnedRound.{Turn, turn-before, turn-again, turn-inside, turn-apart}
 use Rattle.theory.specs.cycle.SomeShown.{SomeShown, shown-cyclic, cyclic-shown}
+use Rattle.theory.specs.cycle.ClosedRound.{Round, shown-round}
 use Rattle.theory.specs.order.Decided.{kept-decided}
 
 -- ---- what is shown is a cycle
-module _ {o : Order} {cycle : List ℕ} (s : Shown o cycle) where
+module _ {o : Order} {cycle : List ℕ} (shown : Shown o cycle) where
+  s : Round o cycle
+  s = shown-round shown
+
   -- an edge leads from each entry to the next
   pub shown-edges : (k : ℕ) → k + 1 < length cycle → Edge o (at cycle k) (at cycle (k + 1))
   shown-edges k l = s .along k l .holds .edge

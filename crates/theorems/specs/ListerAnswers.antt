@@ -80,8 +80,12 @@ unfoldable pub Entries : ℕ → Option (List ℕ) → Type 0
 Entries n none = Unit {0}
 Entries n (some row) = length row ≡ n
 
--- where every question after none or after a row of n entries is answered and not refused, the answers list the definition's list to its end
-module _ (g : Graph) (units : List ℕ) (bound : ℕ) (reply : (asked : Option (List ℕ)) → Entries (many g) asked → Reply g units bound asked) where
+-- what is supposed: whoever asks for the first schedule, or for the next after any row of n entries, is answered and not refused
+pub record NeverRefused (g : Graph) (units : List ℕ) (bound : ℕ) : Type 0 where
+  pub reply : (asked : Option (List ℕ)) → Entries (many g) asked → Reply g units bound asked
+
+-- then the answers list the definition's list to its end
+module _ (g : Graph) (units : List ℕ) (bound : ℕ) (never : NeverRefused g units bound) where
   goes-as : {asked : Option (List ℕ)} {out after u : List ℕ} {rows : List (List ℕ)} → take (many g) after ≡ u
       → ListerAnswer g units bound asked out answers.Found after → Lists g units bound (some u) rows → Lists g units bound asked (u ∷ rows)
   goes-as {asked} {rows = rows} e x l =
@@ -103,10 +107,10 @@ module _ (g : Graph) (units : List ℕ) (bound : ℕ) (reply : (asked : Option (
   ends asked n out (answers.Refused why) after x e = absurd (none-some (sym e))
 
   found : (asked : Option (List ℕ)) {u : List ℕ} {rows : List (List ℕ)} → Entries (many g) asked → Least g units bound asked u → Lists g units bound (some u) rows → Lists g units bound asked (u ∷ rows)
-  found asked long least l = let r = reply asked long in finds asked least l (r .out) (r .listed) (r .after) (r .answer) (r .passes)
+  found asked long least l = let r = never .reply asked long in finds asked least l (r .out) (r .listed) (r .after) (r .answer) (r .passes)
 
   ended : (asked : Option (List ℕ)) → Entries (many g) asked → NoneLeft g units bound asked → Lists g units bound asked []
-  ended asked long n = let r = reply asked long in ends asked n (r .out) (r .listed) (r .after) (r .answer) (r .passes)
+  ended asked long n = let r = never .reply asked long in ends asked n (r .out) (r .listed) (r .after) (r .answer) (r .passes)
 
   lists-from : (asked : Option (List ℕ)) {u : List ℕ} {rows : List (List ℕ)} → Entries (many g) asked → Least g units bound asked u
       → Asked g units bound u rows → Lists g units bound asked rows
@@ -122,7 +126,7 @@ module _ (g : Graph) (units : List ℕ) (bound : ℕ) (reply : (asked : Option (
   sound-graph : Sound g
   unfolding Entries
   sound-graph =
-      let r = reply none tt in
+      let r = never .reply none tt in
       answer-sound g units bound none (r .out) (r .after) (r .listed) (r .passes) (r .answer)
 
   -- each lawful schedule once, rising, and none left exactly when none is left

@@ -17,7 +17,7 @@ use Rattle.maths.specs.Count.{count}
 use Rattle.maths.specs.Counting.{count-mono, count-cover, count-apart, count-strict, some-or-none, least, rank, rank-lt}
 use Rattle.model.specs.Graph.{Graph, many, busyTime, typeOf}
 use Rattle.model.specs.Rule.{placed, candidate, inUse, ahead, startsNow, stepped, Next, OneByOne, stop, start}
-use Rattle.theory.specs.list.OneStep.{uses, uses-is, is-uses, candidate-is, ahead-linear, is-starts, starts-is, starts-unplaced, stepped-long, starts-at, changed, typed, starter, is-starter, filled}
+use Rattle.theory.specs.list.OneStep.{uses, uses-is, is-uses, candidate-is, is-candidate, ahead-linear, is-starts, starts-is, starts-unplaced, stepped-long, starts-at, changed, typed, starter, is-starter, filled}
 
 -- some of those that start at the step have started
 record Part (g : Graph) (labels units t : List ℕ) (l : ℕ) (x : List ℕ) : Type 0 where
@@ -56,10 +56,10 @@ module _ (g : Graph) (labels units t : List ℕ) (l : ℕ) (wide : many g ≤ le
         number = m .place;
         next = record {
           inside = m .inside;
-          candidate-still = and-left _ _ first;
+          candidate-still = candidate-is g t l (m .place) (and-left _ _ first);
           waiting = eqb-true (at x (m .place)) 0 (and-right _ _ (m .passes));
           first = λ j u cj zj q a.
-              let wj = and-true (and-true cj (eq-eqb (typeOf g j) k (q ∙ e))) (eq-eqb (at x j) 0 zj) in
+              let wj = and-true (and-true (is-candidate g t l j cj) (eq-eqb (typeOf g j) k (q ∙ e))) (eq-eqb (at x j) 0 zj) in
               omega (
                 arith,
                 m .low j u wj,
@@ -79,7 +79,7 @@ module _ (g : Graph) (labels units t : List ℕ) (l : ℕ) (wide : many g ≤ le
   next-opens : (x : List ℕ) (i : ℕ) → Next g labels units t l x i → opens x i ≡ true
   unfolding opens
   next-opens x i n =
-      and-true (n .candidate-still)
+      and-true (is-candidate g t l i (n .candidate-still))
       (and-true (eq-eqb (at x i) 0 (n .waiting)) (lt-ltb (inUse g x (typeOf g i) l) (at units (typeOf g i)) (n .room)))
 
   fewer : (x : List ℕ) (i : ℕ) → many g ≤ length x → i < many g → at x i ≡ 0
@@ -182,7 +182,7 @@ module _ (g : Graph) (labels units t : List ℕ) (l : ℕ) (wide : many g ≤ le
           is-starts g labels units t l i
           (record {
             inside = n .inside;
-            may = n .candidate-still;
+            may = is-candidate g t l i (n .candidate-still);
             room = omega (
               arith,
               n .room,
@@ -194,7 +194,7 @@ module _ (g : Graph) (labels units t : List ℕ) (l : ℕ) (wide : many g ≤ le
                   and-true s
                   (and-true (eq-eqb (at t j) 0 (candidate-is g t l j c .unplaced))
                   (lt-ltb 0 (at x j)
-                  (let some : at x j ≡ 0 → ⊥ = λ z. n .first j u c z (eqb-true (typeOf g j) k s) (and-right _ _ (and-right _ _ h)) in
+                  (let some : at x j ≡ 0 → ⊥ = λ z. n .first j u (candidate-is g t l j c) z (eqb-true (typeOf g j) k s) (and-right _ _ (and-right _ _ h)) in
                   omega arith)))),
             );
           })

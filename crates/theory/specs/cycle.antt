@@ -1,3 +1,4 @@
+pub mod ClosedRound
 pub mod LowestPredecessors
 pub mod OneShown
 pub mod OneTrail

@@ -1,3 +1,4 @@
+pub mod BusyTimes
 pub mod OneVerdict
 pub mod RunningAndPeak
 pub mod RunningInNumbers

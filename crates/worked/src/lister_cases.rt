@@ -1,4 +1,5 @@
 // Cases 8 to 11 and 14, and all schedules of the eleven-operation graph at bound 5: the lister.
+use crate::eleven;
 use crate::say;
 use model::Listed;
 use model::limits::OPERATIONS;
@@ -12,13 +13,13 @@ const PRIME: u64 = 1000000007;
 fn told(answer: Listed, out: &[u16], n: usize) -> bool {
     match answer {
         Listed::Found => {
-            say::text(b"(");
-            say::row(out, n, b",");
-            say::text(b")");
+            say::mark(b'(');
+            say::row(out, n, b',');
+            say::mark(b')');
             true
         }
         Listed::NoneLeft => {
-            say::text(b"none left");
+            say::word(say::NONE_LEFT);
             false
         }
         Listed::Refused(why) => {
@@ -29,15 +30,16 @@ fn told(answer: Listed, out: &[u16], n: usize) -> bool {
 }
 
 // Writes all schedules, one after another, until none is left.
-fn all(delays: &[u8], types: &[u8], from: &[u16], to: &[u16], units: &[u8], bound: usize) {
+fn all(delays: &[u8], types: &[u8], from: &[u16], to: &[u16], units: u8, bound: usize) {
     let n = delays.len();
     if OPERATIONS < n {
         return;
     }
+    say::word(say::COLON);
     let mut out = [0u16; OPERATIONS];
-    let kinds = units.len();
+    let counts = [units];
     let mut more = told(
-        lister::first(delays, types, kinds, from, to, units, bound, &mut out),
+        lister::first(delays, types, 1, from, to, &counts, bound, &mut out),
         &out,
         n,
     );
@@ -47,16 +49,16 @@ fn all(delays: &[u8], types: &[u8], from: &[u16], to: &[u16], units: &[u8], boun
             return;
         }
         left -= 1;
-        say::text(b" ");
+        say::mark(b' ');
         let after = out;
         more = told(
             lister::next(
                 delays,
                 types,
-                kinds,
+                1,
                 from,
                 to,
-                units,
+                &counts,
                 bound,
                 &after[0..n],
                 &mut out,
@@ -65,120 +67,112 @@ fn all(delays: &[u8], types: &[u8], from: &[u16], to: &[u16], units: &[u8], boun
             n,
         );
     }
-    say::text(b"\n");
+    say::mark(b'\n');
 }
 
-// Writes the schedule after a row.
-fn after(
-    delays: &[u8],
-    types: &[u8],
-    from: &[u16],
-    to: &[u16],
-    units: &[u8],
-    bound: usize,
-    row: &[u16],
-) {
-    let mut out = [0u16; OPERATIONS];
+// All schedules of n operations of delay 1 and one type, with no edge.
+fn apart(n: usize, units: u8, bound: usize) {
+    if OPERATIONS < n {
+        return;
+    }
+    let ones = [1u8; OPERATIONS];
+    let zeros = [0u8; OPERATIONS];
+    all(
+        &ones[0..n],
+        &zeros[0..n],
+        &[0u16; 0],
+        &[0u16; 0],
+        units,
+        bound,
+    );
+}
+
+// Case 9: two operations and so many units.
+fn ninth(units: u8) {
+    say::case(9, say::ALL);
+    say::mark(b' ');
+    say::entry(units as u16);
+    apart(2, units, 2);
+}
+
+// Case 10: two operations of delay 1, an edge from the first to the second, two units and bound 3.
+fn tenth() {
+    say::case(10, say::ALL);
+    all(&[1u8, 1], &[0u8, 0], &[0u16], &[1u16], 2, 3);
+}
+
+// Case 10: the schedule after a row.
+fn after(first: u16, second: u16) {
+    let mut out = [0u16; 2];
+    say::case(10, say::NEXT);
+    say::entry(first);
+    say::mark(b' ');
+    say::entry(second);
+    say::word(say::COLON);
     told(
         lister::next(
-            delays,
-            types,
-            units.len(),
-            from,
-            to,
-            units,
-            bound,
-            row,
+            &[1u8, 1],
+            &[0u8, 0],
+            1,
+            &[0u16],
+            &[1u16],
+            &[2u8],
+            3,
+            &[first, second],
             &mut out,
         ),
         &out,
-        delays.len(),
+        2,
     );
-    say::text(b"\n");
+    say::mark(b'\n');
 }
 
 // Cases 8 to 11.
 pub fn small() {
-    let none = [0u16; 0];
-    let ones = [1u8; 3];
-    let zeros = [0u8; 3];
-    say::text(b"8 all: ");
-    all(&[0u8; 0], &[0u8; 0], &none, &none, &[1u8], 0);
-    say::text(b"9 all 1: ");
-    all(&[1u8, 1], &[0u8, 0], &none, &none, &[1u8], 2);
-    say::text(b"9 all 2: ");
-    all(&[1u8, 1], &[0u8, 0], &none, &none, &[2u8], 2);
-    say::text(b"10 all: ");
-    all(&[1u8, 1], &[0u8, 0], &[0u16], &[1u16], &[2u8], 3);
-    say::text(b"10 next 1 3: ");
-    after(
-        &[1u8, 1],
-        &[0u8, 0],
-        &[0u16],
-        &[1u16],
-        &[2u8],
-        3,
-        &[1u16, 3],
-    );
-    say::text(b"10 next 0 9: ");
-    after(
-        &[1u8, 1],
-        &[0u8, 0],
-        &[0u16],
-        &[1u16],
-        &[2u8],
-        3,
-        &[0u16, 9],
-    );
-    say::text(b"10 next 65535 65535: ");
-    after(
-        &[1u8, 1],
-        &[0u8, 0],
-        &[0u16],
-        &[1u16],
-        &[2u8],
-        3,
-        &[65535u16, 65535],
-    );
-    say::text(b"11 all: ");
-    all(&ones, &zeros, &none, &none, &[1u8], 2);
+    say::case(8, say::ALL);
+    apart(0, 1, 0);
+    ninth(1);
+    ninth(2);
+    tenth();
+    after(1, 3);
+    after(0, 9);
+    after(65535, 65535);
+    say::case(11, say::ALL);
+    apart(3, 1, 2);
 }
 
-// Case 14: as many units as operations.
-pub fn windows() {
-    let none = [0u16; 0];
+// Case 14: so many operations, and as many units.
+fn fourteenth(n: usize, units: u8) {
+    if OPERATIONS < n {
+        return;
+    }
+    let ones = [1u8; OPERATIONS];
+    let zeros = [0u8; OPERATIONS];
     let mut out = [0u16; OPERATIONS];
-    say::text(b"14 first 19: ");
+    say::case(14, say::FIRST);
+    say::number(n);
+    say::word(say::COLON);
     told(
         lister::first(
-            &[1u8; 19],
-            &[0u8; 19],
+            &ones[0..n],
+            &zeros[0..n],
             1,
-            &none,
-            &none,
-            &[19u8],
+            &[0u16; 0],
+            &[0u16; 0],
+            &[units],
             2,
             &mut out,
         ),
         &out,
-        19,
+        n,
     );
-    say::text(b"\n14 first 20: ");
-    told(
-        lister::first(
-            &[1u8; 20],
-            &[0u8; 20],
-            1,
-            &none,
-            &none,
-            &[20u8],
-            2,
-            &mut out,
-        ),
-        &out,
-        20,
-    );
-    say::text(b"\n");
+    say::mark(b'\n');
+}
+
+// Case 14: the product of the windows at the limit, and past it.
+pub fn windows() {
+    fourteenth(19, 19);
+    fourteenth(20, 20);
 }
 
 // What one start makes of a checksum.
@@ -257,14 +251,21 @@ fn total(
 
 // The eleven-operation graph at bound 5, units 2 and 2: the number of its schedules, and their checksum.
 pub fn eleven() {
-    let delays = [1u8; 11];
-    let types = [0u8, 0, 0, 1, 1, 0, 0, 0, 1, 1, 1];
-    let from = [0u16, 1, 2, 3, 5, 6, 7, 9];
-    let to = [2u16, 2, 3, 4, 6, 4, 8, 10];
-    let listed = total(&delays, &types, &from, &to, &[2u8, 2], 5);
-    say::text(b"eleven all 5: ");
+    let listed = total(
+        &[1u8; eleven::MANY],
+        &eleven::TYPES,
+        &eleven::FROM,
+        &eleven::TO,
+        &[2u8, 2],
+        5,
+    );
+    say::word(say::ELEVEN);
+    say::word(say::ALL);
+    say::mark(b' ');
+    say::number(5);
+    say::word(say::COLON);
     say::number(listed.count);
-    say::text(b" schedules, checksum ");
+    say::word(say::SCHEDULES);
     io::print_decimal(libc::STDOUT_FILENO, listed.sum);
-    say::text(b"\n");
+    say::mark(b'\n');
 }

@@ -5,66 +5,112 @@ use model::Finding;
 use model::Peaks;
 use model::Verdict;
 
+// Writes over-use: its step and its type.
+fn over_use(step: usize, kind: usize) {
+    say::word(say::OVER_USE);
+    say::number(step);
+    say::word(say::TYPE);
+    say::number(kind);
+}
+
+// Writes a fault: what it is, and the operation or the edge.
+fn fault(what: usize, place: usize) {
+    say::word(what);
+    say::number(place);
+}
+
 // Writes what the checker found.
 fn verdict(found: Verdict) {
+    say::word(say::COLON);
     let finding = found.finding;
     match finding {
-        Finding::Lawful => say::text(b"lawful"),
-        Finding::Untimely(operation) => {
-            say::text(b"untimely ");
-            say::number(operation);
-        }
-        Finding::Broken(edge) => {
-            say::text(b"broken ");
-            say::number(edge);
-        }
-        Finding::OverUse(step, kind) => {
-            say::text(b"over-use at step ");
-            say::number(step);
-            say::text(b" type ");
-            say::number(kind);
-        }
+        Finding::Lawful => say::word(say::LAWFUL),
+        Finding::Untimely(operation) => fault(say::UNTIMELY, operation),
+        Finding::Broken(edge) => fault(say::BROKEN, edge),
+        Finding::OverUse(step, kind) => over_use(step, kind),
         Finding::Refused(why) => say::refusal(why, &[0u16; 0]),
     }
-    say::text(b"\n");
+    say::mark(b'\n');
 }
 
 // Writes the four peaks.
-fn peaks(found: Peaks) {
-    let counts = found.counts;
+fn peaks(counts: [usize; 4]) {
     say::number(counts[0]);
-    say::text(b" ");
+    say::mark(b' ');
     say::number(counts[1]);
-    say::text(b" ");
+    say::mark(b' ');
     say::number(counts[2]);
-    say::text(b" ");
+    say::mark(b' ');
     say::number(counts[3]);
-    say::text(b"\n");
 }
 
 // Writes peak use: the four numbers, or the refusal.
 fn peak(found: Peaks) {
+    say::word(say::COLON);
     let answer = found.answer;
+    let counts = found.counts;
     match answer {
-        Answer::Done => peaks(found),
-        Answer::Refused(why) => {
-            say::refusal(why, &[0u16; 0]);
-            say::text(b"\n");
-        }
+        Answer::Done => peaks(counts),
+        Answer::Refused(why) => say::refusal(why, &[0u16; 0]),
     }
+    say::mark(b'\n');
+}
+
+// Case 12: one operation of delay 2 at start 1, checked at a bound.
+fn one(bound: usize) {
+    say::case(12, say::CHECK);
+    say::number(bound);
+    verdict(checker::check(
+        &[2u8],
+        &[0u8],
+        1,
+        &[0u16; 0],
+        &[0u16; 0],
+        &[1u8],
+        bound,
+        &[1u16],
+    ));
+}
+
+// Case 13: two operations of delay 2 on one unit, checked at these starts.
+fn two(first: u16, second: u16) {
+    say::case(13, say::CHECK);
+    say::entry(first);
+    say::mark(b' ');
+    say::entry(second);
+    verdict(checker::check(
+        &[2u8, 2],
+        &[0u8, 0],
+        1,
+        &[0u16; 0],
+        &[0u16; 0],
+        &[1u8],
+        4,
+        &[first, second],
+    ));
+}
+
+// Case 13: the peaks of the two at these starts.
+fn two_peaks(first: u16, second: u16) {
+    say::case(13, say::PEAK);
+    say::entry(first);
+    say::mark(b' ');
+    say::entry(second);
+    peak(peak_use::peak_use(
+        &[2u8, 2],
+        &[0u8, 0],
+        1,
+        &[0u16; 0],
+        &[0u16; 0],
+        &[first, second],
+    ));
 }
 
 // One operation of delay 2, then two of them on one unit.
 pub fn checks() {
-    let none = [0u16; 0];
-    say::text(b"12 check 2: ");
-    verdict(checker::check(&[2u8], &[0u8], 1, &none, &none, &[1u8], 2, &[1u16]));
-    say::text(b"12 check 1: ");
-    verdict(checker::check(&[2u8], &[0u8], 1, &none, &none, &[1u8], 1, &[1u16]));
-    say::text(b"13 check 1 2: ");
-    verdict(checker::check(&[2u8, 2], &[0u8, 0], 1, &none, &none, &[1u8], 4, &[1u16, 2]));
-    say::text(b"13 check 1 3: ");
-    verdict(checker::check(&[2u8, 2], &[0u8, 0], 1, &none, &none, &[1u8], 4, &[1u16, 3]));
-    say::text(b"13 peak 1 2: ");
-    peak(peak_use::peak_use(&[2u8, 2], &[0u8, 0], 1, &none, &none, &[1u16, 2]));
+    one(2);
+    one(1);
+    two(1, 2);
+    two(1, 3);
+    two_peaks(1, 2);
 }

@@ -2,7 +2,7 @@
 use Prim.Native.Nat.{ℕ, _-_}
 use mathlib.Core.List.{List}
 use Rattle.maths.specs.Search.{Passed, passed-none, passed-step, passed-found, passed-end}
-use Rattle.model.specs.Graph.{lent}
+use Rattle.model.specs.Graph.{graphOf}
 use Rattle.model.specs.Faults as fault
 use native.Mathlib.Omega.{arith}
 use borrow.Author.Needs.{needs}
@@ -11,13 +11,13 @@ use Rattle.checker.proofs.broken.Statement.{statement}
 use Rattle.checker.proofs.broken.Tie as tie
 
 abbrev Inv-loop : tie.InvT-loop
-Inv-loop delays from to starts e₀ e = (types : List ℕ) (kinds : ℕ) → Passed (fault.Broken (lent delays types kinds from to) starts) (length from) e
+Inv-loop delays from to starts e₀ e = (busy types : List ℕ) (kinds : ℕ) → Passed (fault.Broken (graphOf delays busy types kinds from to) starts) (length from) e
 
 abbrev μ-loop : tie.MeasureT-loop
 μ-loop delays from to starts e₀ e = length from - e
 
 loop-holds : tie.Need-loop-holds Inv-loop μ-loop
-loop-holds c = λ types kinds. passed-none
+loop-holds c = λ busy types kinds. passed-none
 
 mul-source : tie.Need-mul-source Inv-loop μ-loop
 mul-source c = search needs
@@ -56,7 +56,7 @@ too-early-requires : tie.Need-too-early-requires Inv-loop μ-loop
 too-early-requires c κs = search needs
 
 returns : tie.Need-returns Inv-loop μ-loop
-returns c = λ types kinds. passed-found (c .before .before .before .before .before .before .before .before .loop .inv types kinds) (record { early = c .before .too-early .ensures .yes (c .if1 .taken) })
+returns c = λ busy types kinds. passed-found (c .before .before .before .before .before .before .before .before .loop .inv busy types kinds) (record { early = c .before .too-early .ensures .yes (c .if1 .taken) })
 
 add-e : tie.Need-add-e Inv-loop μ-loop
 add-e c = search needs
@@ -65,11 +65,11 @@ loop-less : tie.Need-loop-less Inv-loop μ-loop
 loop-less c = search needs
 
 loop-again : tie.Need-loop-again Inv-loop μ-loop
-loop-again c = λ types kinds.
-    passed-step (c .before .before .before .before .before .before .before .before .loop .inv types kinds) (c .before .before .before .before .before .before .before .loop-test .taken) (λ b. c .before .too-early .ensures .none (c .if1 .left) (b .early))
+loop-again c = λ busy types kinds.
+    passed-step (c .before .before .before .before .before .before .before .before .loop .inv busy types kinds) (c .before .before .before .before .before .before .before .loop-test .taken) (λ b. c .before .too-early .ensures .none (c .if1 .left) (b .early))
 
 returns-2 : tie.Need-returns-2 Inv-loop μ-loop
-returns-2 c = λ types kinds. passed-end (c .before .loop .inv types kinds) (c .loop-test .left)
+returns-2 c = λ busy types kinds. passed-end (c .before .loop .inv busy types kinds) (c .loop-test .left)
 
 pub broken-spec : {M : Type 1} → statement M
 broken-spec =

@@ -1,5 +1,6 @@
 -- `checker::check` meets its contract: refused, it hands the refusal on; else what no refusal leaves is what `judge` requires.
 use Rattle.theory.specs.refusals.RefusalNumbers.{first-told}
+use Rattle.theory.specs.unit_use.BusyTimes.{busy-lent}
 use Rattle.model.specs.Verdicts.{Finds}
 use Rattle.checker.proofs.Refused.{check-askable}
 use borrow.Author.Needs.{needs}
@@ -16,7 +17,9 @@ enum-told : tie.Need-enum-told
 enum-told c = search needs
 
 judge-requires : tie.Need-judge-requires
-judge-requires c κs = check-askable _ _ _ _ (first-told _ (c .enum-told .given .1) (c .before .before .check-fault .ensures))
+judge-requires c κs =
+    let askable = check-askable _ _ _ _ (first-told _ (c .enum-told .given .1) (c .before .before .check-fault .ensures)) in
+    (askable, busy-lent (askable .sound))
 
 returns : tie.Need-returns
 unfolding Finds

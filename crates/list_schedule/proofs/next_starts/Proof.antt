@@ -2,6 +2,7 @@
 use lib.ListN.{length}
 use borrow.Author.Needs.{needs}
 use Rattle.theory.specs.refusals.SoundGraph.{closed}
+use Rattle.theory.specs.unit_use.BusyTimes.{busy-lent}
 use Rattle.edge_links.specs.WalkedBack.{targets}
 use Rattle.list_schedule.proofs.Going.{acyclic}
 use Rattle.list_schedule.proofs.next_starts.Statement.{statement}
@@ -17,7 +18,7 @@ apply-requires : tie.Need-apply-requires
 apply-requires c κs =
     let start = c .before .before .before .before .before .before .before .before .before .before in
     let ranked = c .before .before .before .ranks .ensures (start .args .types .now) (length (start .args .units .now)) in
-    (start .pre .0 .sound, (c .before .before .before .before .link .ensures, (ranked, (start .pre .1, search needs))))
+    (start .pre .0 .sound, (c .before .before .before .before .link .ensures, (ranked, (start .pre .1, (search needs, busy-lent (start .pre .0 .sound))))))
 
 returns : tie.Need-returns
 returns c = c .apply .ensures

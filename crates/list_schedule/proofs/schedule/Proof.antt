@@ -5,6 +5,7 @@ use lib.ListN.{length}
 use Rattle.model.specs.Limits as limit
 use Rattle.model.specs.Graph.{lent}
 use Rattle.theory.specs.refusals.SoundGraph.{closed}
+use Rattle.theory.specs.unit_use.BusyTimes.{busy-lent}
 use Rattle.edge_links.specs.WalkedBack.{targets}
 use Rattle.list_schedule.proofs.Going.{Going, acyclic, going-none, going-from, going-within, going-step, going-end}
 use Rattle.list_schedule.proofs.schedule.Statement.{statement}
@@ -39,7 +40,7 @@ apply-requires c κs =
     let h = c .before .before .before .before .before .before .loop .inv in
     let within = going-within h (start .pre) (c .before .before .before .before .full .ensures .none (c .before .before .before .if1 .left)) in
     let ranked = c .before .before .before .before .before .before .before .ranks .ensures (start .args .types .now) (length (start .args .units .now)) in
-    (start .pre .sound, (c .before .before .before .before .before .before .before .before .link .ensures, (ranked, ((going-from h, within), h .long))))
+    (start .pre .sound, (c .before .before .before .before .before .before .before .before .link .ensures, (ranked, ((going-from h, within), (h .long, busy-lent (start .pre .sound))))))
 
 add-step : tie.Need-add-step Inv-loop μ-loop
 add-step c =

@@ -4,32 +4,32 @@ use native.Mathlib.Omega.{arith}
 use borrow.Author.Needs.{needs}
 use lib.ListN.{length}
 use Rattle.maths.specs.Rows.{at}
-use Rattle.model.specs.Graph.{lent}
+use Rattle.model.specs.Graph.{graphOf}
 use Rattle.theory.specs.refusals.SoundGraph.{closed}
-use Rattle.list_step.proofs.Rooms.{typed-rows}
+use Rattle.list_step.proofs.Rooms.{typed-busy}
 use Rattle.list_step.proofs.Passing.{Passing, passing-none, turn-of, operation-room, kind-room, used-fits, passing-step, passing-end}
 use Rattle.list_step.proofs.apply.Statement.{statement}
 use Rattle.list_step.proofs.apply.Tie as tie
 
 abbrev Inv-loop : tie.InvT-loop
-Inv-loop delays types from to units links ranked step starts₀ used₀ p₀ starts used p = Passing (lent delays types (length units) from to) units ranked starts₀ step used starts p
+Inv-loop delays busy types from to units links ranked step starts₀ used₀ p₀ starts used p = Passing (graphOf delays busy types (length units) from to) units ranked starts₀ step used starts p
 
 abbrev μ-loop : tie.MeasureT-loop
-μ-loop delays types from to units links ranked step starts₀ used₀ p₀ starts used p = length types - p
+μ-loop delays busy types from to units links ranked step starts₀ used₀ p₀ starts used p = length types - p
 
 in-use-requires : tie.Need-in-use-requires Inv-loop μ-loop
-in-use-requires c κs = typed-rows (c .before .before .before .before .before .before .pre .0)
+in-use-requires c κs = let pre = c .before .before .before .before .before .before .before .pre in typed-busy (pre .0) (pre .1 .1 .1 .1 .1)
 
 loop-holds : tie.Need-loop-holds Inv-loop μ-loop
 loop-holds c =
-    let pre = c .before .before .before .before .before .before .before .pre in
-    passing-none (pre .0) (pre .1 .1 .1 .1) (pre .1 .1 .0) (c .in-use .ensures)
+    let pre = c .before .before .before .before .before .before .before .before .pre in
+    passing-none (pre .0) (pre .1 .1 .1 .1 .1) (pre .1 .1 .1 .1 .0) (pre .1 .1 .0) (c .in-use .ensures)
 
 mul-i : tie.Need-mul-i Inv-loop μ-loop
-mul-i c = omega (arith, c .before .before .before .before .before .before .before .before .before .pre .0 .even-types, c .before .before .before .before .before .before .before .before .before .pre .0 .few)
+mul-i c = omega (arith, c .before .before .before .before .before .before .before .before .before .before .pre .0 .even-types, c .before .before .before .before .before .before .before .before .before .before .pre .0 .few)
 
 element-copy-out-i : tie.Need-element-copy-out-i Inv-loop μ-loop
-element-copy-out-i c = omega (arith, c .before .before .before .before .before .before .before .before .before .pre .0 .even-types, c .before .before .before .before .before .before .before .before .before .pre .0 .few)
+element-copy-out-i c = omega (arith, c .before .before .before .before .before .before .before .before .before .before .pre .0 .even-types, c .before .before .before .before .before .before .before .before .before .before .pre .0 .few)
 
 cast-i : tie.Need-cast-i Inv-loop μ-loop
 cast-i c =
@@ -42,7 +42,7 @@ shared-slice-read-kind c =
     omega (arith, h .sound .even-types, turn-of h (omega (arith, h .sound .even-types)) .inside)
 
 cast-kind : tie.Need-cast-kind Inv-loop μ-loop
-cast-kind c = omega (arith, c .shared-slice-known6 .given (at (c .before .before .before .before .before .before .before .before .before .before .before .args .ranked .now) (c .before .before .before .loop .p)))
+cast-kind c = omega (arith, c .shared-slice-known7 .given (at (c .before .before .before .before .before .before .before .before .before .before .before .before .args .ranked .now) (c .before .before .before .loop .p)))
 
 mul-takes : tie.Need-mul-takes Inv-loop μ-loop
 mul-takes c =
@@ -62,7 +62,7 @@ shared-slice-read-takes c =
 takes-requires : tie.Need-takes-requires Inv-loop μ-loop
 takes-requires c κs =
     let h = c .before .before .before .before .before .loop .inv in
-    let pre = c .before .before .before .before .before .before .before .before .before .before .before .before .before .pre in
+    let pre = c .before .before .before .before .before .before .before .before .before .before .before .before .before .before .pre in
     (record { closed = closed _ (pre .0); linked = pre .1 .0 }, turn-of h (omega (arith, h .sound .even-types)) .inside)
 
 mul-used : tie.Need-mul-used Inv-loop μ-loop
@@ -78,7 +78,7 @@ array-read-used c =
 add-used : tie.Need-add-used Inv-loop μ-loop
 add-used c =
     let h = c .before .before .before .before .before .before .loop .inv in
-    omega (arith, used-fits h _ (omega (arith, h .sound .even-types)) (c .takes .ensures _ _))
+    omega (arith, used-fits h _ (omega (arith, h .sound .even-types)) (c .takes .ensures _ _ _))
 
 array-write-used : tie.Need-array-write-used Inv-loop μ-loop
 array-write-used c =
@@ -117,7 +117,7 @@ loop-less c = search needs
 loop-again : tie.Need-loop-again Inv-loop μ-loop
 loop-again c =
     let h = c .before .before .before .before .before .before .before .before .loop .inv in
-    passing-step h _ _ (omega (arith, h .sound .even-types)) (c .before .before .takes .ensures _ _) (c .chosen .ensures)
+    passing-step h _ _ (omega (arith, h .sound .even-types)) (c .before .before .takes .ensures _ _ _) (c .chosen .ensures)
 
 returns : tie.Need-returns Inv-loop μ-loop
 returns c =

@@ -20,7 +20,7 @@ element-copy-out-if1 : tie.Need-element-copy-out-if1 Inv-loop μ-loop
 element-copy-out-if1 c = search needs
 
 returns : tie.Need-returns Inv-loop μ-loop
-returns c = λ types kinds. placed-no-candidate _ _ _ _ (c .if1 .taken)
+returns c = λ busy types kinds. placed-no-candidate _ _ _ _ (c .if1 .taken)
 
 mul-edge : tie.Need-mul-edge Inv-loop μ-loop
 mul-edge c = search needs
@@ -77,10 +77,10 @@ loop-again : tie.Need-loop-again Inv-loop μ-loop
 loop-again c = let over = c .before .before .finished .ensures .yes (c .before .if2 .taken) in walked-back-step (c .before .before .before .before .before .before .before .loop .inv) (c .before .before .before .before .before .before .loop-test .taken) (c .before .before .before .before .before .before .before .before .before .before .before .before .before .before .pre .0 .linked) (record { placed = over .0; ended = over .1 })
 
 returns-2 : tie.Need-returns-2 Inv-loop μ-loop
-returns-2 c = let here = c .before .before .before .before .before .before .loop in let more = c .before .before .before .before .before .loop-test .taken in λ types kinds. held-none _ _ _ _ (here .edge - 1) (omega (arith, walked-back-inside (here .inv) more, c .before .before .before .before .before .before .before .before .before .before .before .before .before .pre .0 .closed .even)) (walked-back-at (here .inv) more) (λ h. c .before .finished .ensures .none (c .if2 .left) (h .placed, h .ended))
+returns-2 c = let here = c .before .before .before .before .before .before .loop in let more = c .before .before .before .before .before .loop-test .taken in λ busy types kinds. held-none _ _ _ _ (here .edge - 1) (omega (arith, walked-back-inside (here .inv) more, c .before .before .before .before .before .before .before .before .before .before .before .before .before .pre .0 .closed .even)) (walked-back-at (here .inv) more) (λ h. c .before .finished .ensures .none (c .if2 .left) (h .placed, h .ended))
 
 returns-3 : tie.Need-returns-3 Inv-loop μ-loop
-returns-3 c = λ types kinds. cleared _ _ _ _ (c .before .before .before .if1 .left) (c .before .before .before .before .before .before .before .before .pre .0 .closed .even) (c .before .loop .inv) (c .loop-test .left)
+returns-3 c = λ busy types kinds. cleared _ _ _ _ (c .before .before .before .if1 .left) (c .before .before .before .before .before .before .before .before .pre .0 .closed .even) (c .before .loop .inv) (c .loop-test .left)
 
 pub is-candidate-spec : {M : Type 1} → statement M
 is-candidate-spec =

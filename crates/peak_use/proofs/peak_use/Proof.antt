@@ -30,7 +30,7 @@ returns c = record {
 returns-2 : tie.Need-returns-2
 unfolding Counts
 returns-2 c =
-    let all = c .peaks .ensures _ _ _ in
+    let all = c .peaks .ensures _ _ _ _ refl in
     record { first = first-told _ (c .before .enum-told .given .1) (c .before .before .before .peak-fault .ensures); long = all .long; counts = all .each }
 
 pub peak-use-spec : {M : Type 1} → statement M

@@ -1,8 +1,10 @@
 -- `peak_use::peaks` meets its contract: each number is the largest count at the starts passed, and a maximum is met at a start.
 use Prim.Native.Nat.{ℕ, _-_}
+use mathlib.Core.Path.{_≡_, ap}
 use mathlib.Core.List.{List}
 use Rattle.maths.specs.Rows.{at}
-use Rattle.model.specs.Graph.{lent, many, typeOf}
+use Rattle.model.specs.Graph.{graphOf, typeOf}
+use Rattle.theory.specs.unit_use.RunningAndPeak.{runningFirst}
 use Rattle.unit_use.specs.FirstInUse.{in-use-is}
 use Rattle.peak_use.proofs.Peaked.{Peaked, peaked-none, peaked-step, peaked-end}
 use native.Mathlib.Omega.{arith}
@@ -12,13 +14,14 @@ use Rattle.peak_use.proofs.peaks.Statement.{statement}
 use Rattle.peak_use.proofs.peaks.Tie as tie
 
 abbrev Inv-loop : tie.InvT-loop
-Inv-loop delays types starts counts₀ i₀ counts i = (kinds : ℕ) (from to : List ℕ) → Peaked (lent delays types kinds from to) starts counts i
+Inv-loop busy types starts counts₀ i₀ counts i =
+    (delays : List ℕ) (kinds : ℕ) (from to : List ℕ) → length delays ≡ length busy → Peaked (graphOf delays busy types kinds from to) starts counts i
 
 abbrev μ-loop : tie.MeasureT-loop
-μ-loop delays types starts counts₀ i₀ counts i = length delays - i
+μ-loop busy types starts counts₀ i₀ counts i = length busy - i
 
 loop-holds : tie.Need-loop-holds Inv-loop μ-loop
-loop-holds c = λ kinds from to. peaked-none
+loop-holds c = λ delays kinds from to e. peaked-none
 
 shared-slice-read-kind : tie.Need-shared-slice-read-kind Inv-loop μ-loop
 shared-slice-read-kind c = search needs
@@ -62,16 +65,16 @@ loop-less : tie.Need-loop-less Inv-loop μ-loop
 loop-less c = search needs
 
 loop-again : tie.Need-loop-again Inv-loop μ-loop
-loop-again c = λ kinds from to.
+loop-again c = λ delays kinds from to e.
     let a = c .before .before .before .before .before .before .before .before .before .before .args in
     let here = c .before .before .before .before .before .before .loop in
-    let g = lent (a .delays .now) (a .types .now) kinds from to in
+    let g = graphOf delays (a .busy .now) (a .types .now) kinds from to in
     let t = a .starts .now in
-    peaked-step (here .inv kinds from to) (c .before .before .before .before .before .loop-test .taken) (c .before .before .before .before .before .before .before .before .before .before .pre .type-in (c .before .before .before .before .before .before .loop .i) (c .before .before .before .before .before .loop-test .taken))
-    (omega (arith, c .larger .ensures, c .before .in-use .ensures, in-use-is g t (typeOf g (here .i)) (at t (here .i)) (many g)))
+    peaked-step (here .inv delays kinds from to e) (omega (arith, c .before .before .before .before .before .loop-test .taken)) (c .before .before .before .before .before .before .before .before .before .before .pre .type-in (c .before .before .before .before .before .before .loop .i) (c .before .before .before .before .before .loop-test .taken))
+    (omega (arith, c .larger .ensures, c .before .in-use .ensures, in-use-is g t (typeOf g (here .i)) (at t (here .i)) (length (a .busy .now)), ap (λ (m : ℕ). runningFirst g t m (typeOf g (here .i)) (at t (here .i))) e))
 
 returns : tie.Need-returns Inv-loop μ-loop
-returns c = λ kinds from to. peaked-end (c .before .loop .inv kinds from to) (c .loop-test .left)
+returns c = λ delays kinds from to e. peaked-end (c .before .loop .inv delays kinds from to e) (omega (arith, c .loop-test .left))
 
 pub peaks-spec : {M : Type 1} → statement M
 peaks-spec =

@@ -10,10 +10,10 @@ use Rattle.placement.proofs.fits.Statement.{statement}
 use Rattle.placement.proofs.fits.Tie as tie
 
 abbrev Inv-loop : tie.InvT-loop
-Inv-loop delays types from to links units starts i edge₀ edge = WalkedBack (highers from to) i (EdgeInTime delays from to starts) edge
+Inv-loop delays busy types from to links units starts i edge₀ edge = WalkedBack (highers from to) i (EdgeInTime delays from to starts) edge
 
 abbrev μ-loop : tie.MeasureT-loop
-μ-loop delays types from to links units starts i edge₀ edge = edge
+μ-loop delays busy types from to links units starts i edge₀ edge = edge
 
 mul-edge : tie.Need-mul-edge Inv-loop μ-loop
 mul-edge c = search needs
@@ -23,21 +23,21 @@ element-copy-out-edge c = search needs
 
 cast-edge : tie.Need-cast-edge Inv-loop μ-loop
 cast-edge c =
-    let start = c .before .before .before .before .before .before .before in
-    let last = operation-low (start .pre .1) (start .args .i) (omega (arith, start .pre .0 .2 .few)) in
+    let start = c .before .before .before .before .before .before .before .before in
+    let last = operation-low (start .pre .1 .0) (start .args .i) (omega (arith, start .pre .0 .2 .few)) in
     omega (arith, last, highers-long (start .args .from .now) (start .args .to .now), start .pre .0 .2 .few-edges)
 
 loop-holds : tie.Need-loop-holds Inv-loop μ-loop
 loop-holds c =
-    let start = c .before .before .before .before .before .before .before in
-    walked-back-none (start .pre .1) (start .args .i) (omega (arith, start .pre .0 .2 .few))
+    let start = c .before .before .before .before .before .before .before .before in
+    walked-back-none (start .pre .1 .0) (start .args .i) (omega (arith, start .pre .0 .2 .few))
 
 sub-e : tie.Need-sub-e Inv-loop μ-loop
 sub-e c = search needs
 
 kept-requires : tie.Need-kept-requires Inv-loop μ-loop
 kept-requires c κs =
-    let start = c .before .before .before .before .before .before .before .before .before in
+    let start = c .before .before .before .before .before .before .before .before .before .before in
     let here = c .before .loop in
     let inside = edge-inside (here .inv) (c .loop-test .taken) in
     let own = edge-own (here .inv) (c .loop-test .taken) in (
@@ -50,34 +50,34 @@ kept-requires c κs =
 
 add-edge : tie.Need-add-edge Inv-loop μ-loop
 add-edge c =
-    let start = c .before .before .before .before .before .before .before .before .before .before .before in
+    let start = c .before .before .before .before .before .before .before .before .before .before .before .before in
     let here = c .before .before .before .loop in
     omega (arith, link-low (here .inv), start .pre .0 .2 .few-edges)
 
 mul-edge-2 : tie.Need-mul-edge-2 Inv-loop μ-loop
 mul-edge-2 c =
-    let start = c .before .before .before .before .before .before .before .before .before .before .before in
+    let start = c .before .before .before .before .before .before .before .before .before .before .before .before in
     let here = c .before .before .before .loop in
     omega (arith, link-low (here .inv), start .pre .0 .2 .few-edges)
 
 element-copy-out-edge-2 : tie.Need-element-copy-out-edge-2 Inv-loop μ-loop
 element-copy-out-edge-2 c =
-    let start = c .before .before .before .before .before .before .before .before .before .before .before in
+    let start = c .before .before .before .before .before .before .before .before .before .before .before .before in
     let here = c .before .before .before .loop in
     omega (arith, link-low (here .inv), start .pre .0 .2 .few-edges)
 
 cast-edge-2 : tie.Need-cast-edge-2 Inv-loop μ-loop
 cast-edge-2 c =
-    let start = c .before .before .before .before .before .before .before .before .before .before .before .before in
+    let start = c .before .before .before .before .before .before .before .before .before .before .before .before .before in
     let here = c .before .before .before .before .loop in
-    omega (arith, walked-back-falls (here .inv) (c .before .before .before .loop-test .taken) (start .pre .1), link-low (here .inv), start .pre .0 .2 .few-edges)
+    omega (arith, walked-back-falls (here .inv) (c .before .before .before .loop-test .taken) (start .pre .1 .0), link-low (here .inv), start .pre .0 .2 .few-edges)
 
 loop-less : tie.Need-loop-less Inv-loop μ-loop
-loop-less c = walked-back-falls (c .before .before .before .before .loop .inv) (c .before .before .before .loop-test .taken) (c .before .before .before .before .before .before .before .before .before .before .before .before .pre .1)
+loop-less c = walked-back-falls (c .before .before .before .before .loop .inv) (c .before .before .before .loop-test .taken) (c .before .before .before .before .before .before .before .before .before .before .before .before .before .pre .1 .0)
 
 loop-again : tie.Need-loop-again Inv-loop μ-loop
 loop-again c =
-    walked-back-step (c .before .before .before .before .loop .inv) (c .before .before .before .loop-test .taken) (c .before .before .before .before .before .before .before .before .before .before .before .before .pre .1)
+    walked-back-step (c .before .before .before .before .loop .inv) (c .before .before .before .loop-test .taken) (c .before .before .before .before .before .before .before .before .before .before .before .before .before .pre .1 .0)
     (record { kept = c .before .before .kept .ensures .yes (c .before .if1 .taken) })
 
 returns : tie.Need-returns Inv-loop μ-loop
@@ -86,12 +86,14 @@ returns c =
 
 room-requires : tie.Need-room-requires Inv-loop μ-loop
 room-requires c κs =
-    let start = c .before .before .before .before .before .before .before .before .before in (
-      start .pre .0 .0,
-      omega (arith, start .pre .0 .0, start .pre .0 .2 .even-types),
+    let start = c .before .before .before .before .before .before .before .before .before .before in
+    let inside = start .pre .0 .0 in
+    let busy = start .pre .1 .1 in (
+      omega (arith, inside, busy .even),
+      omega (arith, inside, start .pre .0 .2 .even-types),
       start .pre .0 .1,
-      start .pre .0 .2 .type-in _ (start .pre .0 .0),
-      start .pre .0 .2 .delay-from _ (start .pre .0 .0),
+      start .pre .0 .2 .type-in _ inside,
+      busy .from-one _ inside,
     )
 
 returns-2 : tie.Need-returns-2 Inv-loop μ-loop

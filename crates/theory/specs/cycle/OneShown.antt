@@ -7,11 +7,12 @@ use lib.ListN.{length}
 use Rattle.maths.specs.Rows.{at, same-row}
 use Rattle.maths.specs.Lowest.{Lowest, lowest-one}
 use Rattle.model.specs.Order.{Order, size}
-use Rattle.model.specs.Cycle.{Since, Shown}
+use Rattle.model.specs.Cycle.{Shown}
 use Rattle.theory.specs.cycle.OneTrail.{trail-one, back-same, back-one}
+use Rattle.theory.specs.cycle.ClosedRound.{Since, Round, shown-round}
 
 -- ---- there is one at most
-module _ {o : Order} {a b : List ℕ} (s : Shown o a) (r : Shown o b) where
+module _ {o : Order} {a b : List ℕ} (s : Round o a) (r : Round o b) where
   one-met : s .met ≡ r .met
   one-met = trail-one (s .trail) (r .trail) .0
 
@@ -39,4 +40,7 @@ module _ {o : Order} {a b : List ℕ} (s : Shown o a) (r : Shown o b) where
 
 -- an order has one cycle shown at most
 pub shown-one : (o : Order) (a b : List ℕ) → Shown o a → Shown o b → a ≡ b
-shown-one o a b s r = same-row a b (one-long s r) (λ k l. one-entry s r (length a - (k + 1)) k (omega arith))
+shown-one o a b shown other =
+    let s = shown-round shown in
+    let r = shown-round other in
+    same-row a b (one-long s r) (λ k l. one-entry s r (length a - (k + 1)) k (omega arith))

@@ -1,5 +1,5 @@
 -- Where each entry of the cycle was met: the cycle is what was met since, turned round, and begun at its lowest number.
-use mathlib.Core.Path.{_≡_, refl, sym, ap}
+use mathlib.Core.Path.{_≡_, refl, sym, ap, _∙_}
 use mathlib.Core.Logic.{⊎-elim}
 use mathlib.Core.List.{List}
 use Prim.Native.Nat.{ℕ, _+_, _-_, _≤_, _<_}
@@ -45,6 +45,53 @@ module _ {twice count lowest : ℕ} (late : twice ≤ lowest) (inside : lowest <
   pub turned-round : {steps place : ℕ} → steps + twice ≡ count → Turned twice count lowest steps place → place ≡ lowest
   turned-round e (on a b) = omega arith
   turned-round e (around a b) = omega arith
+
+  -- so many steps lead to one place
+  turned-one : {steps place other : ℕ} → Turned twice count lowest steps place → Turned twice count lowest steps other → place ≡ other
+  turned-one (on a b) (on c d) = omega arith
+  turned-one (on a b) (around c d) = omega arith
+  turned-one (around a b) (on c d) = omega arith
+  turned-one (around a b) (around c d) = omega arith
+
+  -- and to each place since `twice` leads a number of steps, less than the whole round by k
+  pub turn-to : (met : List ℕ) (place : ℕ) → twice ≤ place → place < count → (k : ℕ) × ((k + twice < count) × Turn met twice count lowest k (at met place))
+  turn-to met place a b =
+      ⊎-elim
+      (λ l. (
+        lowest + count - twice - place,
+        (
+          omega arith,
+          record { steps = place - lowest; round = omega arith; place = place; turned = on (omega arith) (omega arith); is = refl },
+        ),
+      ))
+      (λ l. (
+        lowest - place,
+        (
+          omega arith,
+          record {
+            steps = count - twice - (lowest - place);
+            round = omega arith;
+            place = place;
+            turned = around (omega arith) (omega arith);
+            is = refl;
+          },
+        ),
+      ))
+      (lt-or-le lowest place)
+
+  -- an entry was met at `twice` or later
+  turned-late : {steps place : ℕ} → Turned twice count lowest steps place → twice ≤ place
+  turned-late (on a b) = omega arith
+  turned-late (around a b) = omega arith
+
+  pub turn-late : {met : List ℕ} {k v : ℕ} (x : Turn met twice count lowest k v) → twice ≤ x .place
+  turn-late x = turned-late (x .turned)
+
+  -- what is entry k is one number
+  pub turn-one : {met : List ℕ} {k v w : ℕ} → Turn met twice count lowest k v → Turn met twice count lowest k w → v ≡ w
+  turn-one {met} x y =
+      let more : x .steps ≡ y .steps = omega (arith, x .round, y .round) in
+      sym (x .is) ∙ ap (at met) (turned-one (rw more at (x .turned)) (y .turned)) ∙ y .is
 
   turned-next : {steps place next : ℕ} → steps + 1 + twice ≤ count → Turned twice count lowest steps place → Turned twice count lowest (steps + 1) next
       → Next twice count place next

@@ -1,19 +1,19 @@
 -- From the trail to the cycle written: the place of its lowest number, then entry after entry.
 use mathlib.Core.Path.{_≡_, refl, sym, ap, subst, _∙_}
 use mathlib.Core.Logic.{⊎-elim}
-use mathlib.Core.List.{List}
+use mathlib.Core.List.{List, reverse}
 use Prim.Native.Nat.{ℕ, _+_, _-_, _≤_, _<_}
 use native.Mathlib.Omega.{arith}
 use borrow.Author.Count.{below-more}
-use lib.ListN.{length, set, take, length-set}
+use lib.ListN.{length, set, take, drop, length-set}
 use lib.Seq.{getD-set-same, getD-set-other}
 use Rattle.maths.specs.Cases.{lt-or-le}
-use Rattle.maths.specs.Rows.{at, take-at, take-long}
-use Rattle.maths.specs.Lowest.{Lowest}
-use Rattle.model.specs.Order.{Order, size}
-use Rattle.model.specs.Cycle.{Trail, Since, Shown}
-use Rattle.theory.specs.cycle.OneTrail.{back-same, trail-inside}
-use Rattle.theory.specs.cycle.TurnedRound.{Turned, Turn, turned-inside, turned-round, turn-back, turn-again}
+use Rattle.maths.specs.Rows.{at, same-row, take-at, take-long}
+use Rattle.maths.specs.Turning.{beginningAt}
+use Rattle.model.specs.Order.{Order}
+use Rattle.model.specs.Cycle.{Trail, Shown}
+use Rattle.theory.specs.cycle.TurnedRound.{Turned, Turn, turned-inside, turned-round, turn-one, turn-late, turn-inside}
+use Rattle.theory.specs.cycle.ClosedRound.{turned-long, turned-turn}
 
 -- of the places from `twice` to before `count`, `best` has the least number
 pub record LeastNumber (met : List ℕ) (twice count best : ℕ) : Type 0 where
@@ -104,29 +104,31 @@ module _ {o : Order} {met : List ℕ} {twice count lowest : ℕ} {before after :
 
   -- what is written in front is the cycle shown
   pub shown-made : Shown o (take (count - twice) after)
-  shown-made = record {
-    met = take count met;
-    twice = twice;
-    trail = trail;
-    long = omega (arith, met-long, cycle-long, least .late, least .inside);
-    begins = subst (Lowest (Since (take count met) twice) (size o)) entry-first (record {
-      inside = trail-inside trail lowest lowest-inside;
-      holds = record { place = lowest; late = least .late; inside = lowest-inside; is = refl };
-      none-before = λ k l s.
-          let inside : s .place < count = omega (arith, s .inside, met-long) in
-          omega (
-            arith,
-            s .is,
-            take-at count met (s .place) inside,
-            take-at count met lowest (least .inside),
-            least .least (s .place) inside (s .late),
-          );
-    });
-    along = λ k l.
-        turn-back trail (least .late) lowest-inside (entry (k + 1) (omega (arith, cycle-long))) (entry k (omega (arith, cycle-long)));
-    closes =
-        let k : ℕ = length (take (count - twice) after) - 1 in
-        let again = turn-again trail (least .late) lowest-inside (k + 1) (omega (arith, met-long, cycle-long, least .late, least .inside)) in
-        back-same entry-first refl
-        (turn-back trail (least .late) lowest-inside again (entry k (omega (arith, cycle-long, least .late, least .inside))));
-  }
+  shown-made =
+      let n : ℕ = count - 1 - lowest in
+      let ends : n + lowest + 1 ≡ length (take count met) = omega (arith, met-long, least .inside) in
+      let long = turned-long (take count met) twice lowest n (least .late) ends in
+      record {
+        met = take count met;
+        twice = twice;
+        trail = trail;
+        place = n;
+        inside = omega (arith, cycle-long, least .late, least .inside);
+        is =
+            same-row (take (count - twice) after) (beginningAt n (reverse (drop twice (take count met))))
+            (omega (arith, cycle-long, met-long))
+            (λ k l.
+            turn-one (least .late) lowest-inside (entry k (omega (arith, cycle-long)))
+            (turned-turn (take count met) twice lowest n (least .late) ends k (omega (arith, cycle-long, met-long))));
+        lowest = λ k l.
+            let t = entry k (omega (arith, cycle-long)) in
+            let inside : t .place < count = omega (arith, met-long, turn-inside trail (least .late) lowest-inside t) in
+            omega (
+              arith,
+              entry-first,
+              t .is,
+              take-at count met (t .place) inside,
+              take-at count met lowest (least .inside),
+              least .least (t .place) inside (turn-late (least .late) lowest-inside t),
+            );
+      }

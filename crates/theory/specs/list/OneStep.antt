@@ -16,25 +16,15 @@ use Rattle.maths.specs.Counting.{count-same, count-cover, count-zero, count-now
 use Rattle.model.specs.Order.{source, target}
 use Rattle.model.specs.Graph.{Graph, order, many, edgesOf, delay, busyTime, typeOf}
 use Rattle.model.specs.Use.{runs}
-use Rattle.model.specs.Rule.{placed, finished, blocks, candidate, inUse, ahead, candidatesAhead, startsNow, pickStart, stepped}
+use Rattle.model.specs.Rule.{placed, Finished, Candidate, finished, blocks, candidate, inUse, ahead, candidatesAhead, startsNow, pickStart, stepped}
 
 -- ---- the tests as facts
--- i is placed with t + d ≤ l
-pub record Finished (g : Graph) (t : List ℕ) (l i : ℕ) : Type 0 where
-  pub placed : 1 ≤ at t i
-  pub ended : at t i + delay g i ≤ l
-
 -- i is placed, of type k and running at step l
 pub record Uses (g : Graph) (t : List ℕ) (k l i : ℕ) : Type 0 where
   pub placed : 1 ≤ at t i
   pub kind : typeOf g i ≡ k
   pub begun : at t i ≤ l
   pub going : l < at t i + busyTime g i
-
--- i is not placed, and every predecessor of it is over
-pub record Candidate (g : Graph) (t : List ℕ) (l i : ℕ) : Type 0 where
-  pub unplaced : at t i ≡ 0
-  pub ready : (e : ℕ) → e < edgesOf g → target (order g) e ≡ i → Finished g t l (source (order g) e)
 
 -- i starts: a candidate, and those running and those before it leave it a unit
 pub record Starts (g : Graph) (labels units t : List ℕ) (l i : ℕ) : Type 0 where

@@ -18,8 +18,8 @@ use Rattle.model.specs.Limits as limit
 use Rattle.model.specs.Order.{source}
 use Rattle.model.specs.Graph.{Graph, Sound, order, many, delay, busyTime, typeOf}
 use Rattle.model.specs.Tables.{Keeps}
-use Rattle.model.specs.Rule.{placed, candidate, inUse, startsNow, pickStart, stepped, after}
-use Rattle.theory.specs.list.OneStep.{Finished, uses, uses-is, is-candidate, starts-is, starts-unplaced, starts-at, changed, kept, typed, starter, filled}
+use Rattle.model.specs.Rule.{Finished, placed, candidate, inUse, startsNow, pickStart, stepped, after}
+use Rattle.theory.specs.list.OneStep.{uses, uses-is, is-candidate, starts-is, starts-unplaced, starts-at, changed, kept, typed, starter, filled}
 use Rattle.theory.specs.list.ReachedStates.{Reached, reached}
 
 -- what lets every operation be placed: each type in use has a unit, none keeps its unit longer than its successors wait, and no cycle (a row keeps the order)

@@ -11,8 +11,8 @@ use Rattle.maths.specs.Counting.{count-mono, count-zero}
 use Rattle.model.specs.Limits as limit
 use Rattle.model.specs.Order.{source, target}
 use Rattle.model.specs.Graph.{Graph, order, many, edgesOf}
-use Rattle.model.specs.Rule.{inUse, stepped, after}
-use Rattle.theory.specs.list.OneStep.{Finished, uses, uses-is, is-uses, candidate-is, starts-is, stepped-long, changed, kept, units-kept}
+use Rattle.model.specs.Rule.{Finished, inUse, stepped, after}
+use Rattle.theory.specs.list.OneStep.{uses, uses-is, is-uses, candidate-is, starts-is, stepped-long, changed, kept, units-kept}
 
 -- the starts t before step l
 pub record Reached (g : Graph) (units t : List ℕ) (l : ℕ) : Type 0 where

@@ -5,6 +5,7 @@ use borrow.Author.Needs.{needs}
 use lib.ListN.{length}
 use lib.ListN.{length-set}
 use Rattle.model.specs.Graph.{lent}
+use Rattle.theory.specs.unit_use.BusyTimes.{busy-lent}
 use Rattle.lister.proofs.Turns.{Trying, trying-none, trying-step, trying-found, trying-out}
 use Rattle.lister.proofs.search.fitting.Statement.{statement}
 use Rattle.lister.proofs.search.fitting.Tie as tie
@@ -28,7 +29,7 @@ fits-requires : tie.Need-fits-requires Inv-loop μ-loop
 fits-requires c κs =
     let start = c .before .before .before .before .before .before .before .before .before in
     let long = c .before .before .loop .inv .long in
-    simp length-set ((start .pre .0 .0, omega (arith, long, start .pre .0 .1), start .pre .0 .2), start .pre .1)
+    simp length-set ((start .pre .0 .0, omega (arith, long, start .pre .0 .1), start .pre .0 .2), (start .pre .1, busy-lent (start .pre .0 .2)))
 
 same-length : tie.Need-same-length Inv-loop μ-loop
 same-length c = simp length-set (c .before .before .before .before .loop .inv .long)

@@ -7,16 +7,22 @@ use Rattle.worked.proofs.lister_cases.all.Statement.{statement}
 use Rattle.worked.proofs.lister_cases.all.Tie as tie
 
 abbrev Inv-loop : tie.InvT-loop
-Inv-loop delays types from to units bound n out₀ kinds more₀ left₀ t13 t14 out more left = length out ≡ limit.operations
+Inv-loop delays types from to units bound n out₀ counts more₀ left₀ out more left = length out ≡ limit.operations
 
 abbrev μ-loop : tie.MeasureT-loop
-μ-loop delays types from to units bound n out₀ kinds more₀ left₀ t13 t14 out more left = left
+μ-loop delays types from to units bound n out₀ counts more₀ left₀ out more left = left
 
 returns : tie.Need-returns Inv-loop μ-loop
 returns c = search needs
 
+word-requires : tie.Need-word-requires Inv-loop μ-loop
+word-requires c κs = search needs
+
 slice-aggregate-first : tie.Need-slice-aggregate-first Inv-loop μ-loop
 slice-aggregate-first c = search needs
+
+slice-aggregate-first-2 : tie.Need-slice-aggregate-first-2 Inv-loop μ-loop
+slice-aggregate-first-2 c = search needs
 
 first-requires : tie.Need-first-requires Inv-loop μ-loop
 first-requires c κs = search needs
@@ -36,11 +42,11 @@ returns-2 c = search needs
 sub-left : tie.Need-sub-left Inv-loop μ-loop
 sub-left c = search needs
 
-slice-aggregate-text : tie.Need-slice-aggregate-text Inv-loop μ-loop
-slice-aggregate-text c = search needs
+mark-requires : tie.Need-mark-requires Inv-loop μ-loop
+mark-requires c κs = search needs
 
-text-requires : tie.Need-text-requires Inv-loop μ-loop
-text-requires c κs = search needs
+slice-aggregate-next : tie.Need-slice-aggregate-next Inv-loop μ-loop
+slice-aggregate-next c = search needs
 
 sub-next : tie.Need-sub-next Inv-loop μ-loop
 sub-next c = search needs
@@ -51,8 +57,8 @@ part-next-start c = search needs
 part-next-end : tie.Need-part-next-end Inv-loop μ-loop
 part-next-end c = search needs
 
-slice-aggregate-next : tie.Need-slice-aggregate-next Inv-loop μ-loop
-slice-aggregate-next c = search needs
+slice-aggregate-next-2 : tie.Need-slice-aggregate-next-2 Inv-loop μ-loop
+slice-aggregate-next-2 c = search needs
 
 next-requires : tie.Need-next-requires Inv-loop μ-loop
 next-requires c κs = search needs
@@ -69,11 +75,8 @@ loop-less c = search needs
 loop-again : tie.Need-loop-again Inv-loop μ-loop
 loop-again c = search needs
 
-slice-aggregate-text-2 : tie.Need-slice-aggregate-text-2 Inv-loop μ-loop
-slice-aggregate-text-2 c = search needs
-
-text-requires-2 : tie.Need-text-requires-2 Inv-loop μ-loop
-text-requires-2 c κs = search needs
+mark-requires-2 : tie.Need-mark-requires-2 Inv-loop μ-loop
+mark-requires-2 c κs = search needs
 
 returns-3 : tie.Need-returns-3 Inv-loop μ-loop
 returns-3 c = search needs
@@ -85,24 +88,25 @@ all-spec =
     Inv-loop
     μ-loop
     returns
+    word-requires
     slice-aggregate-first
+    slice-aggregate-first-2
     first-requires
     slice-aggregate-told
     told-requires
     loop-holds
     returns-2
     sub-left
-    slice-aggregate-text
-    text-requires
+    mark-requires
+    slice-aggregate-next
     sub-next
     part-next-start
     part-next-end
-    slice-aggregate-next
+    slice-aggregate-next-2
     next-requires
     slice-aggregate-told-2
     told-requires-2
     loop-less
     loop-again
-    slice-aggregate-text-2
-    text-requires-2
+    mark-requires-2
     returns-3)

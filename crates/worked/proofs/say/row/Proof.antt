@@ -17,8 +17,8 @@ loop-holds c = search needs
 returns : tie.Need-returns Inv-loop μ-loop
 returns c = search needs
 
-text-requires : tie.Need-text-requires Inv-loop μ-loop
-text-requires c κs = search needs
+mark-requires : tie.Need-mark-requires Inv-loop μ-loop
+mark-requires c κs = search needs
 
 mul-entry : tie.Need-mul-entry Inv-loop μ-loop
 mul-entry c = search needs
@@ -49,7 +49,7 @@ row-spec =
     μ-loop
     loop-holds
     returns
-    text-requires
+    mark-requires
     mul-entry
     shared-slice-read-entry
     entry-requires
