@@ -83,7 +83,7 @@ units-pass g units e =
     first-silent _ _ none (at-lowest-silent 6 (g .kinds) _ (λ k l h. omega (arith, each k l, h .none))) first-end
 
 -- the seventh: starts that keep the order rise along every walk
-pub cyclic-passes : (o : Order) → Closed o → (t : List ℕ) → Keeps o t → First (cyclic o) none
+pub cyclic-passes : {heaviest : ℕ} (o : Order) → Closed heaviest o → (t : List ℕ) → Keeps o t → First (cyclic o) none
 cyclic-passes o c t k =
     first-silent _ _ none (λ number place h. keeps-acyclic o c t k (shown-cyclic (h .shown))) first-end
 

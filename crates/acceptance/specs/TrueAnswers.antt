@@ -22,7 +22,8 @@ use Rattle.theory.specs.refusals.FirstRefusal.{first-pass, first-silent, first-
 use Rattle.theory.specs.refusals.SoundGraph.{closed}
 use Rattle.model.specs.Answers.{RowAfter, AsapAnswer, AlapAnswer, MobilityAnswer}
 use Rattle.model.specs.Verdicts.{Counts, PeakAnswer}
-use Rattle.model.specs.Rule.{Chain, Label, Labels, finished, blocks, candidate, ahead, startsNow, stepped, after, ListStarts}
+use Rattle.model.specs.Order.{weight}
+use Rattle.model.specs.Rule.{Chain, Label, Labels, labelOrder, finished, blocks, candidate, ahead, startsNow, stepped, after, ListStarts}
 use Rattle.model.specs.Scheduling.{ListAnswer, StateAfter, AdvanceAnswer}
 use Rattle.model.specs.Listing.{isLawful, product, Least, NoneLeft, ListerUneven, listerChecks, Gives, ListerAnswer, Asked, AskedAll}
 use Rattle.theorems.specs.AllListed.{asked-all, Gets, next-gets}
@@ -85,14 +86,14 @@ mobility-true = record { first = alap-passes; row = record { row = twoStarts 1 1
 
 -- ---- the list schedule and its advance
 -- without edges every chain is of one operation
-chain-alone : {i n : ℕ} → Chain pair i n → n ≡ 1
+chain-alone : {i n : ℕ} → Chain (labelOrder pair) i n → n ≡ weight (labelOrder pair) i
 chain-alone (Chain.alone l) = refl
 chain-alone (Chain.then e c) = absurd (omega (arith, e .inside))
 
-pair-labels : Labels pair (twoStarts 1 1)
+pair-labels : Labels (labelOrder pair) (twoStarts 1 1)
 pair-labels = record {
   each = λ i l.
-      below-two (λ (i : ℕ). Label pair i (at (twoStarts 1 1) i))
+      below-two (λ (i : ℕ). Label (labelOrder pair) i (at (twoStarts 1 1) i))
       (record { chain = Chain.alone (omega arith); longest = λ m c. omega (arith, chain-alone c) })
       (record { chain = Chain.alone (omega arith); longest = λ m c. omega (arith, chain-alone c) })
       i

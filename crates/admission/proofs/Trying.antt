@@ -16,7 +16,7 @@ use Rattle.model.specs.declared.Refusal.the-variants.{Cycle}
 use Rattle.cycle.specs.Show.{KeptAt, Shows}
 use Rattle.admission.specs.OrderAdmitted.{OrderAdmitted}
 
-module _ {o : Order} {s : List ℕ} {placed : ℕ} (c : Closed o) (p : Placing o s placed) where
+module _ {heaviest : ℕ} {o : Order} {s : List ℕ} {placed : ℕ} (c : Closed heaviest o) (p : Placing o s placed) where
   -- what is not placed is what a cycle reaches
   pub kept-at : KeptAt o s
   kept-at = record { zero = placing-kept c p; kept = placing-free c p }

@@ -65,7 +65,7 @@ lower-one kind units lowest r s a b =
         omega (arith, b .newly (omega arith))
 
 -- any two outcomes that the contract of `place` allows are equal: answer, output row and starts
-pub place-one : (o : Order) → Closed o → (before : List ℕ) (r r′ : Answer) (s s′ after after′ : List ℕ) → OrderAdmitted o before r s after → OrderAdmitted o before r′ s′ after′
+pub place-one : {heaviest : ℕ} (o : Order) → Closed heaviest o → (before : List ℕ) (r r′ : Answer) (s s′ after after′ : List ℕ) → OrderAdmitted o before r s after → OrderAdmitted o before r′ s′ after′
     → (r ≡ r′) × (after ≡ after′) × (s ≡ s′)
 place-one o c before r r′ s s′ after after′ h k =
     let frame = answered-one o (cyclic o) before (λ a. a ≡ before) (cyclic-ones o) (shown-one o) (refusalOf r) (refusalOf r′) after after′

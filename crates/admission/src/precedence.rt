@@ -4,6 +4,7 @@ use model::Refusal;
 use model::limits::OPERATIONS;
 ghost use Prim.Native.Nat.{_≤_};
 ghost use lib.ListN.{length};
+ghost use Rattle.model.specs.Limits as limit;
 ghost use Rattle.model.specs.Order.{ordered, Closed};
 ghost use Rattle.model.specs.Refusals.{First, cyclic};
 ghost use Rattle.model.specs.Answers.{refusalOf};
@@ -17,11 +18,11 @@ pub fn place(
     starts: &mut [u16; OPERATIONS],
     out: &mut [u16],
 ) -> Answer
-    requires { ⌜ Closed (ordered (now delays) (now from) (now to)) ⌝ }
+    requires { ⌜ Closed limit.longest (ordered (now delays) (now from) (now to)) ⌝ }
     requires { ⌜ length (now delays) ≤ length (now out) ⌝ }
     ensures { λ r. ⌜ OrderAdmitted (ordered (now (delays .entry)) (now (from .entry)) (now (to .entry))) (now (out .entry)) r (now (starts .exit)) (now (out .exit)) ⌝ }
 {
-    let placed = earliest::earliest(delays, from, to, starts);
+    let placed = earliest::by_delays(delays, from, to, starts);
     if placed == delays.len() {
         return Answer::Done;
     }
@@ -31,7 +32,7 @@ pub fn place(
 
 // The same where no output row is lent: a cycle's length is given, and it is written nowhere.
 pub fn cycle_fault(delays: &[u8], from: &[u16], to: &[u16]) -> Answer
-    requires { ⌜ Closed (ordered (now delays) (now from) (now to)) ⌝ }
+    requires { ⌜ Closed limit.longest (ordered (now delays) (now from) (now to)) ⌝ }
     ensures { λ r. ⌜ First (cyclic (ordered (now (delays .entry)) (now (from .entry)) (now (to .entry)))) (refusalOf r) ⌝ }
 {
     let mut starts = [0u16; OPERATIONS];

@@ -104,7 +104,7 @@ fn too_early(start: u16, earlier: u16, delay: u8) -> bool
 
 // The lowest edge whose end starts before its beginning is over, or the number of edges, whatever the busy times and types are.
 fn broken(delays: &[u8], from: &[u16], to: &[u16], starts: &[u16]) -> usize
-    requires { ⌜ Closed (ordered (now delays) (now from) (now to)) ⌝ }
+    requires { ⌜ Closed limit.longest (ordered (now delays) (now from) (now to)) ⌝ }
     requires { ⌜ length (now starts) ≡ length (now delays) ⌝ }
     ensures { λ r. ⌜ ((busy types : List ℕ) (kinds : ℕ) → LowestOr (fault.Broken (graphOf (now (delays .entry)) busy types kinds (now (from .entry)) (now (to .entry))) (now (starts .entry))) (length (now (from .entry))) r) ⌝ }
 {

@@ -18,14 +18,14 @@ use Rattle.cycle.specs.Show.{KeptAt, Shows}
 use Rattle.cycle.specs.Parts.{Blank, EndsInside, FirstBlank, Trailed}
 
 -- a closed order's edges end below the limit
-pub ends : {o : Order} → Closed o → EndsInside (o .from) (o .to)
+pub ends : {o : Order} {heaviest : ℕ} → Closed heaviest o → EndsInside (o .from) (o .to)
 ends closed = record {
   even = closed .even;
   source-in = λ e l. omega (arith, closed .source-in e l, closed .few);
   target-in = λ e l. omega (arith, closed .target-in e l, closed .few);
 }
 
-module _ {o : Order} {starts back : List ℕ} {first : ℕ} (closed : Closed o) (marked : KeptAt o starts) (cyclic : Cyclic o)
+module _ {heaviest : ℕ} {o : Order} {starts back : List ℕ} {first : ℕ} (closed : Closed heaviest o) (marked : KeptAt o starts) (cyclic : Cyclic o)
     (backed : Backed (o .from) (o .to) (Blank starts) back (edgeCount o)) (blank : FirstBlank starts (size o) first) where
   -- 0 marks the kept, so the row leads to the lowest kept predecessors
   leads : Leads o back
@@ -61,7 +61,7 @@ module _ {o : Order} {starts back : List ℕ} {first : ℕ} (closed : Closed o) 
       }
 
 -- what is written in front of the row is the cycle shown
-pub shows : {o : Order} {met : List ℕ} {count twice lowest : ℕ} {before after : List ℕ} → Closed o → Trailed o met count twice → size o ≤ length before
+pub shows : {o : Order} {met : List ℕ} {count twice lowest : ℕ} {before after : List ℕ} {heaviest : ℕ} → Closed heaviest o → Trailed o met count twice → size o ≤ length before
     → LeastNumber met twice count lowest → Wrote met twice count lowest before after (count - twice) → Shows o before after (count - twice)
 shows {o} {met} {count} {twice} {lowest} {before} {after} closed t wide least wrote =
     let cycle : List ℕ = take (count - twice) after in

@@ -81,7 +81,7 @@ fn walk(back: &[u16; OPERATIONS], first: usize) -> Walked
 
 // The trail of document 01's rule. 0 in `starts` marks the kept operations.
 fn trail(weights: &[u8], from: &[u16], to: &[u16], starts: &[u16; OPERATIONS]) -> Walked
-    requires { ⌜ Closed (ordered (now weights) (now from) (now to)) ⌝ }
+    requires { ⌜ Closed limit.longest (ordered (now weights) (now from) (now to)) ⌝ }
     requires { ⌜ KeptAt (ordered (now weights) (now from) (now to)) (now starts) ⌝ }
     requires { ⌜ Cyclic (ordered (now weights) (now from) (now to)) ⌝ }
     ensures { λ r. ⌜ Trailed (ordered (now (weights .entry)) (now (from .entry)) (now (to .entry))) (r .met) (r .count) (r .twice) ⌝ }
@@ -147,7 +147,7 @@ pub fn show(
     starts: &[u16; OPERATIONS],
     out: &mut [u16],
 ) -> usize
-    requires { ⌜ Closed (ordered (now weights) (now from) (now to)) ⌝ }
+    requires { ⌜ Closed limit.longest (ordered (now weights) (now from) (now to)) ⌝ }
     requires { ⌜ KeptAt (ordered (now weights) (now from) (now to)) (now starts) ⌝ }
     requires { ⌜ Cyclic (ordered (now weights) (now from) (now to)) ⌝ }
     requires { ⌜ length (now weights) ≤ length (now out) ⌝ }

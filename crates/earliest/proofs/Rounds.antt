@@ -11,6 +11,7 @@ use Rattle.model.specs.Order.{Order, size, Closed}
 use Rattle.model.specs.Placing.{Placing}
 use Rattle.theory.specs.order.PlacingSteps.{part-none, part-whole}
 use Rattle.edge_links.specs.Linking.{Linked}
+use Rattle.earliest.specs.Widths.{heaviest}
 use Rattle.earliest.specs.Round.{Known, Round}
 use Rattle.earliest.proofs.Sweep.{known-more}
 
@@ -21,7 +22,7 @@ pub record RoundsSoFar (o : Order) (s links : List ℕ) (total : ℕ) : Type 0 w
 
 module _ {o : Order} {links : List ℕ} where
   -- nothing is placed yet
-  pub rounds-none : Closed o → Linked (o .to) links → RoundsSoFar o (replicate limit.operations 0) links 0
+  pub rounds-none : Closed heaviest o → Linked (o .to) links → RoundsSoFar o (replicate limit.operations 0) links 0
   rounds-none c linked = record {
     known = record {
       closed = c;

@@ -11,19 +11,20 @@ use Rattle.maths.specs.Count.{marks, marks-le}
 use Rattle.model.specs.Order.{Order, size, Closed}
 use Rattle.model.specs.Placing.{StartsAt, Waits}
 use Rattle.theory.specs.order.PlacingSteps.{Part, part-more, more-set}
+use Rattle.earliest.specs.Widths.{heaviest}
 use Rattle.earliest.specs.Round.{Known, Visit, Round, kthOf}
 
 -- the links stay when more is placed
-pub known-more : {o : Order} {s₀ s links : List ℕ} → Known o s₀ links → Part o s → Known o s links
+pub known-more : {o : Order} {s₀ s links : List ℕ} → Known o s₀ links → Part heaviest o s → Known o s links
 known-more h p = record { closed = h .closed; part = p; linked = h .linked }
 
 module _ {o : Order} {s : List ℕ} {i : ℕ} where
   -- i is placed already, or waits
-  pub visit-none : Part o s → (at s i ≡ 0 → Waits o s i) → Visit o i s s 0
+  pub visit-none : Part heaviest o s → (at s i ≡ 0 → Waits o s i) → Visit o i s s 0
   visit-none h w = record { part = h; counts = omega arith; same = λ z. refl; stuck = λ z. w }
 
   -- i is placed
-  pub visit-set : {b : ℕ} → Closed o → Part o s → i < size o → at s i ≡ 0 → StartsAt o s i b → Visit o i s (set s i b) 1
+  pub visit-set : {b : ℕ} → Closed heaviest o → Part heaviest o s → i < size o → at s i ≡ 0 → StartsAt o s i b → Visit o i s (set s i b) 1
   visit-set c h l z d =
       let m = more-set c h l z d in
       record { part = part-more c h m; counts = m .counts; same = λ y. absurd (omega arith); stuck = λ y. absurd (omega arith) }
@@ -41,13 +42,13 @@ kth-inside false n k l = omega arith
 -- the loop of `round`, before the k-th visit: where none is placed, each that was visited and is left waits
 pub record Sweep (o : Order) (up : Bool) (s₀ s : List ℕ) (r k : ℕ) : Type 0 where
   pub within : k ≤ size o
-  pub part : Part o s
+  pub part : Part heaviest o s
   pub counts : marks s (size o) ≡ marks s₀ (size o) + r
   pub stuck : r ≡ 0 → (j : ℕ) → j < k → at s (kthOf up (size o) j) ≡ 0 → Waits o s (kthOf up (size o) j)
 
 module _ {o : Order} {up : Bool} {s₀ : List ℕ} where
   -- none is visited
-  pub sweep-none : Part o s₀ → Sweep o up s₀ s₀ 0 0
+  pub sweep-none : Part heaviest o s₀ → Sweep o up s₀ s₀ 0 0
   sweep-none h = record { within = omega arith; part = h; counts = omega arith; stuck = λ z j l. absurd (omega arith) }
 
   -- one more is visited

@@ -9,6 +9,7 @@ use Rattle.model.specs.Placing.{MayStart}
 use Rattle.theory.specs.order.PlacingSteps.{later, FirstStep}
 use Rattle.edge_links.specs.Linking.{ofOperation, ofEdge, Linked}
 use Rattle.edge_links.specs.WalkedBack.{WalkedBack, walked-back-as, walked-back-none, walked-back-inside, walked-back-at, walked-back-falls, walked-back-step, walked-back-end}
+use Rattle.earliest.specs.Widths.{heaviest}
 use Rattle.earliest.proofs.Later.{later-zero, later-placed, later-max}
 
 -- edge k leaves an operation that is placed, and over by the step
@@ -22,7 +23,7 @@ pub record WalkingBack (o : Order) (s : List ℕ) (i step link : ℕ) : Type 0 w
   pub least : (b : ℕ) → MayStart o s i b → step ≤ b
   pub passed : WalkedBack (o .to) i (OverBy o s step) link
 
-module _ {o : Order} {s links : List ℕ} {i : ℕ} (c : Closed o) (all : Linked (o .to) links) where
+module _ {o : Order} {s links : List ℕ} {i : ℕ} (c : Closed heaviest o) (all : Linked (o .to) links) where
   -- at the operation's link no edge is passed, and step 1 is free
   pub back-none : i < size o → WalkingBack o s i 1 (ofOperation links i)
   back-none l = record {

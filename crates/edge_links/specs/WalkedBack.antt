@@ -22,14 +22,14 @@ pub walked-back-as : {ends : List ℕ} {i : ℕ} {P Q : ℕ → Type 0} {link : 
 walked-back-as f h = record { within = h .within; is = h .is; each = λ k a b q. f k (h .each k a b q) }
 
 -- the targets of a closed order can be linked
-pub targets : {o : Order} → Closed o → LinkableEnds (o .to)
+pub targets : {o : Order} {heaviest : ℕ} → Closed heaviest o → LinkableEnds (o .to)
 targets c = record {
   few = omega (arith, c .few-edges, c .even);
   inside = λ e l. omega (arith, c .target-in e (omega (arith, c .even)), c .few);
 }
 
 -- an edge of it leaves within the rows of operations
-pub source-room : {o : Order} → Closed o → (e : ℕ) → e < edgeCount o → source o e < limit.operations
+pub source-room : {o : Order} {heaviest : ℕ} → Closed heaviest o → (e : ℕ) → e < edgeCount o → source o e < limit.operations
 source-room c e l = omega (arith, c .few, c .source-in e l)
 
 -- an operation's link leads to one of the edges

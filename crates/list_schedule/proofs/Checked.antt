@@ -6,6 +6,7 @@ use mathlib.Core.List.{List, _++_}
 use Prim.Native.Nat.{ℕ}
 use lib.Dec.{eqb}
 use lib.ListN.{length}
+use Rattle.model.specs.Limits as limit
 use Rattle.model.specs.Order.{Closed}
 use Rattle.model.specs.Graph.{Graph, Sound, order}
 use Rattle.model.specs.Refusals.{First, shape, output, unitless}
@@ -31,7 +32,7 @@ module _ (g : Graph) (units : List ℕ) where
   advance-units x h = shape-test-then g (length units) (g .kinds) (unitless g units) x h
 
   -- what they let by has no edge that leads outside
-  pub advance-closed : First (shape g Flagged ++ unitless g units) none → Closed (order g)
+  pub advance-closed : First (shape g Flagged ++ unitless g units) none → Closed limit.longest (order g)
   advance-closed h = closed g (ready (first-none-append (shape g Uneven) (unitless g units) (advance-units none h) .0) .0)
 
   -- ---- the list schedule's checks, in the table's words

@@ -10,10 +10,10 @@ use Rattle.maths.specs.Rows.{at, blank}
 use Rattle.model.specs.Limits as limit
 use Rattle.model.specs.Order.{Cyclic}
 use Rattle.model.specs.Graph.{Graph, many, order}
-use Rattle.model.specs.Rule.{Labels, stepped, AllPlaced, after}
+use Rattle.model.specs.Rule.{Labels, labelOrder, stepped, AllPlaced, after}
 use Rattle.theory.specs.refusals.SoundGraph.{closed}
 use Rattle.theory.specs.tables.KeepingStarts.{keeps-acyclic}
-use Rattle.theory.specs.list.LabelValues.{labels-one}
+use Rattle.theory.specs.list.LabelValues.{graph-labels-one}
 use Rattle.theory.specs.list.OneStep.{stepped-long, rest-stays}
 use Rattle.theory.specs.list.Progress.{Doable}
 use Rattle.theory.specs.list.OneListSchedule.{stepped-same, after-stable, all-placed}
@@ -24,7 +24,7 @@ use Rattle.list_schedule.specs.Fronts.{Full, ListRow}
 -- the starts before a step
 pub record Going (g : Graph) (units t : List ℕ) (step : ℕ) : Type 0 where
   pub labels : List ℕ
-  pub are-labels : Labels g labels
+  pub are-labels : Labels (labelOrder g) labels
   pub rounds : ℕ
   pub next : step ≡ rounds + 1
   pub long : length t ≡ limit.operations
@@ -72,7 +72,7 @@ module _ {g : Graph} {units t : List ℕ} {step : ℕ} (h : Going g units t step
   pub going-step : {t′ : List ℕ} → Moves g units t step t′ (step + 1) → Going g units t′ (step + 1)
   unfolding after
   going-step {t′} m =
-      let same = labels-one g (m .labels) (h .labels) (m .are-labels) (h .are-labels) in
+      let same = graph-labels-one g (m .labels) (h .labels) (m .are-labels) (h .are-labels) in
       record {
         labels = h .labels;
         are-labels = h .are-labels;

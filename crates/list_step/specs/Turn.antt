@@ -17,9 +17,9 @@ runsAt start busy step = ltb 0 start and (leb start step and ltb step (start + b
 abbrev pub usesAt : List ℕ → List ℕ → ℕ → ℕ → Bool
 usesAt busy starts step i = runsAt (at starts i) (at busy i) step
 
--- the larger label comes first, then the lower number
+-- the larger key comes first, then the lower number
 abbrev pub aheadAt : ℕ → ℕ → ℕ → ℕ → Bool
-aheadAt label j other i = ltb other label or (eqb label other and ltb j i)
+aheadAt key j other i = ltb other key or (eqb key other and ltb j i)
 
 -- a type for each of n operations, below the limit
 pub record Typed (types : List ℕ) (n : ℕ) : Type 0 where

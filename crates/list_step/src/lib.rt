@@ -52,7 +52,7 @@ fn running(start: u16, busy: u8, step: usize) -> usize
 }
 
 // 1 where i is a candidate: it is not placed, and every edge that enters it comes from an operation that is over. The links lead through these edges.
-fn is_candidate(
+pub fn is_candidate(
     delays: &[u8],
     from: &[u16],
     to: &[u16],
@@ -82,7 +82,7 @@ fn is_candidate(
 }
 
 // How many operations of each type are running: one pass over the operations.
-fn in_use(busy: &[u8], types: &[u8], starts: &[u16; OPERATIONS], step: usize) -> [usize; KINDS]
+pub fn in_use(busy: &[u8], types: &[u8], starts: &[u16; OPERATIONS], step: usize) -> [usize; KINDS]
     requires { ⌜ Typed (now types) (length (now busy)) ⌝ }
     ensures { λ r. ⌜ CountsByValue (at (now (types .entry))) (usesAt (now (busy .entry)) (now (starts .entry)) step) limit.kinds r (length (now (busy .entry))) ⌝ }
 {

@@ -22,7 +22,7 @@ use Rattle.tables.specs.Admitted.{RoomWithin, LatestRow}
 use Rattle.lister.specs.Search.{spans, Windows}
 use Rattle.lister.specs.Asking.{BackAdmitted}
 
-module _ (g : Graph) (closed : Closed (order g)) (bound : ℕ) (early : List ℕ) (is-early : Earliest (order g) early) where
+module _ (g : Graph) (closed : Closed limit.longest (order g)) (bound : ℕ) (early : List ℕ) (is-early : Earliest (order g) early) where
   -- above the last step: refusal 8
   pub back-admitted-large : (late : List ℕ) → limit.steps < bound → BackAdmitted g bound (Refused BoundTooLarge) late
   back-admitted-large late l = record {

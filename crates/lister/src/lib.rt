@@ -94,7 +94,7 @@ fn windows(
     bound: usize,
     early: &[u16; OPERATIONS],
 ) -> Bound
-    requires { ⌜ Closed (ordered (now delays) (now from) (now to)) ⌝ }
+    requires { ⌜ Closed limit.longest (ordered (now delays) (now from) (now to)) ⌝ }
     requires { ⌜ Earliest (ordered (now delays) (now from) (now to)) (now early) ⌝ }
     ensures { λ r. ⌜ ((types : List ℕ) (kinds : ℕ) → BackAdmitted (lent (now (delays .entry)) types kinds (now (from .entry)) (now (to .entry))) bound (r .answer) (r .late)) ⌝ }
 {

@@ -40,15 +40,15 @@ source o e = at (o .from) e
 abbrev pub target : Order → ℕ → ℕ
 target o e = at (o .to) e
 
--- few enough operations and edges, each edge has two ends that are operations, each weight lies between 1 and the longest delay
-pub record Closed (o : Order) : Type 0 where
+-- few enough operations and edges, each edge has two ends that are operations, each weight lies between 1 and the heaviest
+pub record Closed (heaviest : ℕ) (o : Order) : Type 0 where
   pub few : size o ≤ limit.operations
   pub few-edges : edgeCount o ≤ limit.edges
   pub even : length (o .to) ≡ edgeCount o
   pub source-in : (e : ℕ) → e < edgeCount o → source o e < size o
   pub target-in : (e : ℕ) → e < edgeCount o → target o e < size o
   pub positive : (i : ℕ) → i < size o → 1 ≤ weight o i
-  pub small : (i : ℕ) → i < size o → weight o i ≤ limit.longest
+  pub small : (i : ℕ) → i < size o → weight o i ≤ heaviest
 
 -- an edge leads from i to j
 pub record Edge (o : Order) (i j : ℕ) : Type 0 where

@@ -1,7 +1,7 @@
 -- How far an order can be placed: a start for each operation that waits for none, and 0 for the others.
 use mathlib.Core.Path.{_≡_}
 use mathlib.Core.List.{List}
-use Prim.Native.Nat.{ℕ, _+_, _*_, _≤_, _<_}
+use Prim.Native.Nat.{ℕ, _+_, _≤_, _<_}
 use lib.ListN.{length}
 use Rattle.maths.specs.Rows.{at}
 use Rattle.maths.specs.Count.{marks}
@@ -32,5 +32,4 @@ pub record Placing (o : Order) (s : List ℕ) (r : ℕ) : Type 0 where
   pub starts : (i : ℕ) → i < size o → 1 ≤ at s i → StartsAt o s i (at s i)
   pub waits : (i : ℕ) → i < size o → at s i ≡ 0 → Waits o s i
   pub rest : (i : ℕ) → size o ≤ i → at s i ≡ 0
-  pub low : (i : ℕ) → at s i ≤ 1 + limit.longest * size o
   pub counts : r ≡ marks s (size o)

@@ -11,7 +11,7 @@ use Rattle.model.specs.Graph.{Graph, order, many}
 use Rattle.model.specs.Tables.{Latency}
 use Rattle.model.specs.Refusals.{Check, First, Flat, shape, output, unitless, cyclic}
 use Rattle.model.specs.Answers.{numbered, Answered}
-use Rattle.model.specs.Rule.{Labels, stepped, AllPlaced, ListStarts}
+use Rattle.model.specs.Rule.{Labels, labelOrder, stepped, AllPlaced, ListStarts}
 use Rattle.model.specs.declared.Scheduled as scheduled
 use Rattle.model.specs.declared.Scheduled.the-variants as answers
 
@@ -59,7 +59,7 @@ advanceChecks g units t step =
 -- the rule at the state's step, and one step further on
 pub record Moves (g : Graph) (units t : List ℕ) (step : ℕ) (t′ : List ℕ) (step′ : ℕ) : Type 0 where
   pub labels : List ℕ
-  pub are-labels : Labels g labels
+  pub are-labels : Labels (labelOrder g) labels
   pub starts : t′ ≡ stepped g labels units t step
   pub further : step′ ≡ step + 1
 

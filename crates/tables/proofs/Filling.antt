@@ -92,7 +92,7 @@ module _ {g : Graph} {bound : ℕ} {before s mid : List ℕ} {a : Answer} (h : A
     good = passed .sound refl
 
     -- what `latest` asks: a closed order, a low bound, and starts within it
-    pub latest-fits : Closed (order g) × ((bound ≤ limit.steps) × RoomWithin (order g) bound)
+    pub latest-fits : Closed limit.longest (order g) × ((bound ≤ limit.steps) × RoomWithin (order g) bound)
     latest-fits =
         (closed g good, (passed .low refl, record { row = s; keeps = passed .earliest refl .keeps; within = passed .within refl }))
 

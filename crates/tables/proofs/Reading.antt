@@ -37,7 +37,7 @@ module _ {o : Order} {bound : ℕ} {u : List ℕ} where
     rest = λ k l. blank limit.operations k;
   }
 
-  pub reading-step : {row : List ℕ} {i : ℕ} → Closed o → Reading o bound u row i → i < size o
+  pub reading-step : {row : List ℕ} {i heaviest : ℕ} → Closed heaviest o → Reading o bound u row i → i < size o
       → Reading o bound u (set row i (read o bound u i)) (i + 1)
   reading-step {row} {i} c h l =
       let room : i < length row = omega (arith, c .few, h .long) in
@@ -53,7 +53,7 @@ module _ {o : Order} {bound : ℕ} {u : List ℕ} where
       }
 
 -- the order turned round has no cycle where some starts keep the order: so all of it is placed
-module _ {o : Order} {bound placed : ℕ} {u : List ℕ} (c : Closed o) (room : RoomWithin o bound) (p : Placing (turned o) u placed) where
+module _ {heaviest : ℕ} {o : Order} {bound placed : ℕ} {u : List ℕ} (c : Closed heaviest o) (room : RoomWithin o bound) (p : Placing (turned o) u placed) where
   backwards : Keeps (turned o) (mirror o bound (room .row))
   backwards = mirror-keeps o c bound (room .row) (room .keeps) (room .within)
 

@@ -60,13 +60,13 @@ fn begin_within(
 
 // The latest starts within a bound that leaves room for some: the earliest of the order turned round, read from the bound backwards.
 pub fn latest(delays: &[u8], from: &[u16], to: &[u16], bound: usize) -> [u16; OPERATIONS]
-    requires { ⌜ Closed (ordered (now delays) (now from) (now to)) ⌝ }
+    requires { ⌜ Closed limit.longest (ordered (now delays) (now from) (now to)) ⌝ }
     requires { ⌜ bound ≤ limit.steps ⌝ }
     requires { ⌜ RoomWithin (ordered (now delays) (now from) (now to)) bound ⌝ }
     ensures { λ r. ⌜ LatestRow (ordered (now (delays .entry)) (now (from .entry)) (now (to .entry))) bound r ⌝ }
 {
     let mut turned = [0u16; OPERATIONS];
-    earliest::earliest(delays, to, from, &mut turned);
+    earliest::by_delays(delays, to, from, &mut turned);
     let mut starts = [0u16; OPERATIONS];
     let mut i = 0;
     while i < delays.len() {

@@ -1,43 +1,46 @@
 -- From the fresh state as many advances as there are steps give the list schedule, and none of them is refused.
 use mathlib.Core.List.{List, [], _∷_, _++_}
-use Prim.Native.Nat.{ℕ, zero, suc, _+_}
-use lib.ListN.{replicate, length-replicate, getD-replicate, take, length}
+use Prim.Native.Nat.{ℕ, zero, suc, _+_, _-_}
+use lib.ListN.{replicate, take, length}
 use mathlib.Core.Path.{refl, _≡_, sym, ap, subst, _∙_}
 use mathlib.Core.Logic.{⊎-elim}
 use mathlib.Core.Option.{Option, none}
 use native.Mathlib.Omega.{arith}
-use Rattle.model.specs.Order.{Closed, Cyclic}
+use Rattle.maths.specs.Rows.{at, tabulate, tabulate-at}
+use Rattle.model.specs.Order.{Order, size, weight, Closed, Cyclic}
 use Rattle.model.specs.Graph.{Graph, order, many}
-use Rattle.model.specs.Rule.{Labels, after, ListStarts, stepped, AllPlaced}
+use Rattle.model.specs.Rule.{Labels, labelOrder, after, ListStarts, stepped, AllPlaced}
 use Rattle.model.specs.Limits as limit
 use Rattle.model.specs.Refusals.{First, Flat, shape, unitless, cyclic}
 use Rattle.model.specs.Scheduling.{Outside, advanceChecks, StateAfter, AdvanceAnswer}
 use Rattle.theory.specs.order.PlacingOutcome.{placing-exists}
-use Rattle.theory.specs.list.LabelValues.{AllOne, labels-placed, ones-closed, labels-one}
+use Rattle.theory.specs.list.LabelValues.{labels-placed, label-closed, label-acyclic, graph-labels-one}
 use Rattle.theory.specs.list.Progress.{Doable}
 use Rattle.theory.specs.list.OneListSchedule.{all-placed, stepped-same, stable, after-stable}
 use Rattle.theory.specs.refusals.FirstRefusal.{first-pass, first-silent, first-end, flat-silent}
 use Rattle.theory.specs.refusals.OneRefusal.{first-one}
-use Rattle.theory.specs.refusals.SoundGraph.{closed, sound}
+use Rattle.theory.specs.refusals.SoundGraph.{closed, closed-turned, sound}
 use Rattle.theory.specs.tables.KeepingStarts.{keeps-acyclic}
 use Rattle.theory.specs.list.OneListAnswer.{advance-ones, all-or-not}
 
--- the labels of a graph
-pub record LabelRow (g : Graph) : Type 0 where
+-- the labels of an order
+pub record LabelRow (o : Order) : Type 0 where
   pub row : List ℕ
-  pub are : Labels g row
+  pub are : Labels o row
 
 -- where there is no cycle there are labels
-pub labels-exist : (g : Graph) → Closed (order g) → (Cyclic (order g) → ⊥) → LabelRow g
-labels-exist g c free =
-    let n = many g in
-    let ones : AllOne n (replicate n 1) = record { long = length-replicate {A = ℕ} n 1; each = λ i l. getD-replicate n i 1 0 l } in
-    let p = placing-exists (ones-closed g c (replicate n 1) ones) in
-    record { row = p .row; are = labels-placed g c (replicate n 1) ones free (p .row) (p .number) (p .is) }
+pub labels-exist : {heaviest : ℕ} (o : Order) → Closed heaviest o → (Cyclic o → ⊥) → LabelRow o
+labels-exist o c free =
+    let p = placing-exists (closed-turned o c) in
+    let label : ℕ → ℕ = λ i. at (p .row) i + weight o i - 1 in
+    record {
+      row = tabulate label (size o);
+      are = labels-placed o c free (p .row) (p .number) (p .is) (tabulate label (size o)) (tabulate-at label (size o));
+    }
 
 module _ (g : Graph) (labels units : List ℕ) (can : Doable g units) where
   -- as many advances of the rule as there are steps give the list schedule
-  pub list-starts : Labels g labels → ListStarts g units (take (many g) (after g labels units limit.steps))
+  pub list-starts : Labels (labelOrder g) labels → ListStarts g units (take (many g) (after g labels units limit.steps))
   list-starts are = record { labels = labels; are-labels = are; rounds = limit.steps; all = all-placed g labels units can; is = refl }
 
 -- ---- advances from the fresh state
@@ -52,7 +55,7 @@ pub record Come (g : Graph) (labels units : List ℕ) (k : ℕ) (t : List ℕ) (
   pub starts : t ≡ after g labels units k
   pub further : (AllPlaced g t → ⊥) → step ≡ k + 1
 
-module _ (g : Graph) (labels units : List ℕ) (are : Labels g labels) where
+module _ (g : Graph) (labels units : List ℕ) (are : Labels (labelOrder g) labels) where
   -- one more, from a state that has come so far
   come-next : (k : ℕ) (t t′ : List ℕ) (step step′ : ℕ) → Come g labels units k t step → StateAfter g units t step none t′ step′
       → Come g labels units (suc k) t′ step′
@@ -71,7 +74,7 @@ module _ (g : Graph) (labels units : List ℕ) (are : Labels g labels) where
       let here = come .further not in
       record {
         starts = m .starts
-            ∙ stepped-same g (m .labels) labels units (labels-one g (m .labels) labels (m .are-labels) are) t step
+            ∙ stepped-same g (m .labels) labels units (graph-labels-one g (m .labels) labels (m .are-labels) are) t step
             ∙ ap (λ (row : List ℕ). stepped g labels units row step) (come .starts)
             ∙ ap (stepped g labels units (after g labels units k)) here;
         further = λ still. omega (arith, m .further);
@@ -84,10 +87,10 @@ module _ (g : Graph) (labels units : List ℕ) (are : Labels g labels) where
   advances-come (then before one) = come-next _ _ _ _ _ (advances-come before) (one .state)
 
 -- a graph that can be scheduled whole has labels
-pub labelled : (g : Graph) (units : List ℕ) → Doable g units → LabelRow g
+pub labelled : (g : Graph) (units : List ℕ) → Doable g units → LabelRow (labelOrder g)
 labelled g units can =
     let c = closed g (can .sound) in
-    labels-exist g c (keeps-acyclic (order g) c (can .row) (can .keeps))
+    labels-exist (labelOrder g) (label-closed g c) (label-acyclic g (keeps-acyclic (order g) c (can .row) (can .keeps)))
 
 module _ (g : Graph) (units : List ℕ) (can : Doable g units) where
   -- and give the list schedule's starts

@@ -66,7 +66,7 @@ pub record ShownExactly (o : Order) : Type 0 where
   pub cyclic-is-shown : Cyclic o → SomeShown o
   pub shown-is-cyclic : (cycle : List ℕ) → Shown o cycle → Cyclic o
 
-pub shown-exactly : (o : Order) → Closed o → ShownExactly o
+pub shown-exactly : {heaviest : ℕ} (o : Order) → Closed heaviest o → ShownExactly o
 shown-exactly o c = record {
   cyclic-is-shown = cyclic-shown c (kept-decided c);
   shown-is-cyclic = λ cycle s. shown-cyclic s;

@@ -27,7 +27,7 @@ module _ {o : Order} {t : List ℕ} where
       (arith, a .within .ends i inside, a .least (at t i + weight o i - 1) (record { ends = λ j l. omega (arith, none-later j l) }))
 
 -- an order without a cycle has earliest starts: they keep precedence, and none that do are earlier
-pub earliest-exists : (o : Order) → Closed o → (Cyclic o → ⊥) → EarliestRow o
+pub earliest-exists : {heaviest : ℕ} (o : Order) → Closed heaviest o → (Cyclic o → ⊥) → EarliestRow o
 earliest-exists o c none = acyclic-earliest c none
 
 -- latest starts within a bound, none of them before the earliest
@@ -37,7 +37,7 @@ pub record LatestStarts (o : Order) (bound : ℕ) (s : List ℕ) : Type 0 where
   pub not-before : (i : ℕ) → i < size o → at s i ≤ at row i
 
 -- a bound at or above the ASAP latency leaves latest starts, and ASAP ≤ ALAP
-pub latest-exists : (o : Order) → Closed o → (bound l : ℕ) (s : List ℕ) → Earliest o s → Latency o s l → l ≤ bound → LatestStarts o bound s
+pub latest-exists : {heaviest : ℕ} (o : Order) → Closed heaviest o → (bound l : ℕ) (s : List ℕ) → Earliest o s → Latency o s l → l ≤ bound → LatestStarts o bound s
 latest-exists o c bound l s h ends up =
     let inside = latency-within o s l bound ends up in
     let back = mirror-keeps o c bound s (h .keeps) inside in

@@ -61,6 +61,13 @@ element-copy-out-after-edge c =
     let inside = back-inside (start .pre .0 .closed) (start .pre .0 .linked) (here .inv) (c .before .loop-test .taken) in
     source-room (start .pre .0 .closed) (here .edge - 1) inside
 
+mul-after-edge-2 : tie.Need-mul-after-edge-2 Inv-loop μ-loop
+mul-after-edge-2 c =
+    let start = c .before .before .before .before .before .before .before .before in
+    let here = c .before .before .before .loop in
+    let inside = back-inside (start .pre .0 .closed) (start .pre .0 .linked) (here .inv) (c .before .before .loop-test .taken) in
+    omega (arith, source-room (start .pre .0 .closed) (here .edge - 1) inside)
+
 shared-slice-read-after-edge : tie.Need-shared-slice-read-after-edge Inv-loop μ-loop
 shared-slice-read-after-edge c =
     let start = c .before .before .before .before .before .before .before .before .before in
@@ -134,6 +141,7 @@ first-step-spec =
     cast-source
     mul-after-edge
     element-copy-out-after-edge
+    mul-after-edge-2
     shared-slice-read-after-edge
     after-edge-requires
     returns

@@ -17,21 +17,21 @@ Inv-loop delays from to bound turned starts₀ i₀ starts i = Reading (ordered 
 abbrev μ-loop : tie.MeasureT-loop
 μ-loop delays from to bound turned starts₀ i₀ starts i = length delays - i
 
-earliest-requires : tie.Need-earliest-requires Inv-loop μ-loop
-earliest-requires c κs = closed-turned _ (c .before .before .before .before .pre .0)
+by-delays-requires : tie.Need-by-delays-requires Inv-loop μ-loop
+by-delays-requires c κs = closed-turned _ (c .before .before .before .before .pre .0)
 
 loop-holds : tie.Need-loop-holds Inv-loop μ-loop
 loop-holds c = reading-none
 
 -- the start turned round and the delay fit below the bound, and the bound is low
 fits : (c : tie.After-shared-slice-known4 Inv-loop μ-loop)
-    → (at (c .before .before .before .earliest .last .1 .1 .1 .0) (c .before .before .loop .i)
+    → (at (c .before .before .before .by-delays .last .1 .1 .1 .0) (c .before .before .loop .i)
     + at (c .before .before .before .before .before .before .before .before .args .delays .now) (c .before .before .loop .i)
     ≤ c .before .before .before .before .before .before .before .before .args .bound + 1)
     × (c .before .before .before .before .before .before .before .before .args .bound ≤ limit.steps)
 fits c =
     let start = c .before .before .before .before .before .before .before .before in (
-      turned-fits (start .pre .0) (start .pre .1 .1) (c .before .before .before .earliest .ensures) (c .before .before .loop .i) (c .before .loop-test .taken),
+      turned-fits (start .pre .0) (start .pre .1 .1) (c .before .before .before .by-delays .ensures) (c .before .before .loop .i) (c .before .loop-test .taken),
       start .pre .1 .0,
     )
 
@@ -82,7 +82,7 @@ loop-again c =
 returns : tie.Need-returns Inv-loop μ-loop
 returns c =
     let start = c .before .before .before .before .before .before .before in
-    reading-end (start .pre .0) (start .pre .1 .1) (c .before .before .earliest .ensures) (c .before .loop .inv) (c .loop-test .left)
+    reading-end (start .pre .0) (start .pre .1 .1) (c .before .before .by-delays .ensures) (c .before .loop .inv) (c .loop-test .left)
 
 pub latest-spec : {M : Type 1} → statement M
 latest-spec =
@@ -90,7 +90,7 @@ latest-spec =
     (tie.spec
     Inv-loop
     μ-loop
-    earliest-requires
+    by-delays-requires
     loop-holds
     add-starts
     shared-slice-read-starts

@@ -95,7 +95,7 @@ module _ {from to : List ℕ} {P : ℕ → Type 0} where
 pub record Leads (o : Order) (back : List ℕ) : Type 0 where
   pub each : (i : ℕ) → Kept o i → Back o i (at back i)
 
-module _ {o : Order} {P : ℕ → Type 0} {back : List ℕ} (closed : Closed o) (there : (j : ℕ) → j < size o → P j → Kept o j) (here : (j : ℕ) → Kept o j → P j)
+module _ {heaviest : ℕ} {o : Order} {P : ℕ → Type 0} {back : List ℕ} (closed : Closed heaviest o) (there : (j : ℕ) → j < size o → P j → Kept o j) (here : (j : ℕ) → Kept o j → P j)
     (h : Backed (o .from) (o .to) P back (edgeCount o)) where
   backed-under : (i j : ℕ) → Behind o i j → at back i ≤ j
   backed-under i j b =

@@ -46,7 +46,7 @@ some-lesser met old new =
     (lt-or-le (at met new) (at met old))
 
 -- what the edges before e say of each operation, where it is decided which are kept
-some-backed : {o : Order} → Closed o → ((i : ℕ) → i < size o → Kept o i ⊎ (Kept o i → ⊥)) → (e : ℕ) → e ≤ edgeCount o
+some-backed : {o : Order} {heaviest : ℕ} → Closed heaviest o → ((i : ℕ) → i < size o → Kept o i ⊎ (Kept o i → ⊥)) → (e : ℕ) → e ≤ edgeCount o
     → (back : List ℕ) × Backed (o .from) (o .to) (Kept o) back e
 some-backed closed dec zero l = (replicate limit.operations limit.operations, backed-none)
 some-backed {o} closed dec (suc e) l =
@@ -115,7 +115,7 @@ trail-shown {o} met count {twice} trail room inside =
     record { cycle = take (count - twice) after; shown = shown-made {after = after} trail room least wrote wide }
 
 -- from the lowest kept operation back there is a trail
-start-shown : {o : Order} {first : ℕ} → Closed o → ((i : ℕ) → i < size o → Kept o i ⊎ (Kept o i → ⊥)) → Lowest (Kept o) (size o) first → SomeShown o
+start-shown : {o : Order} {first heaviest : ℕ} → Closed heaviest o → ((i : ℕ) → i < size o → Kept o i ⊎ (Kept o i → ⊥)) → Lowest (Kept o) (size o) first → SomeShown o
 start-shown {o} closed dec start =
     let (back, backed) = some-backed closed dec (edgeCount o) (omega arith) in
     let leads = backed-end closed (λ j l k. k) (λ j k. k) backed in
@@ -123,7 +123,7 @@ start-shown {o} closed dec start =
     trail-shown (r .met) (r .count) (trail-made leads start (r .rounds)) (omega (arith, r .rounds .few, r .rounds .long)) (r .rounds .inside)
 
 -- where it is decided which operations are kept, a graph with a cycle has one that is shown
-pub cyclic-shown : {o : Order} → Closed o → ((i : ℕ) → i < size o → Kept o i ⊎ (Kept o i → ⊥)) → Cyclic o → SomeShown o
+pub cyclic-shown : {o : Order} {heaviest : ℕ} → Closed heaviest o → ((i : ℕ) → i < size o → Kept o i ⊎ (Kept o i → ⊥)) → Cyclic o → SomeShown o
 cyclic-shown {o} closed dec c =
     ⊎-elim
     (λ f. start-shown closed dec (f .lowest))

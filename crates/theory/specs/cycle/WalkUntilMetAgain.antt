@@ -98,7 +98,7 @@ module _ {o : Order} {back : List ℕ} {first : ℕ} (leads : Leads o back) (sta
   visited-back : (k : ℕ) → Back o (visited back first k) (visited back first (k + 1))
   visited-back k = back-same refl (sym (visited-next back first k)) (leads .each (visited back first k) (visited-kept k))
 
-  pub leads-stays : Closed o → NeverLeaves back first
+  pub leads-stays : {heaviest : ℕ} → Closed heaviest o → NeverLeaves back first
   leads-stays closed = record { each = λ k. omega (arith, kept-inside closed (visited-kept k), closed .few) }
 
   -- along the lowest kept predecessors, what is met until one comes again is the trail

@@ -28,13 +28,13 @@ use Rattle.theory.specs.order.Decided.{EarliestRow, kept-decided, acycli
 use Rattle.theory.specs.cycle.OneShown.{shown-one}
 use Rattle.theory.specs.cycle.SomeShown.{cyclic-shown}
 use Rattle.theory.specs.refusals.CycleAndBounds.{cyclic-ones}
-use Rattle.theory.specs.list.LabelValues.{labels-one}
+use Rattle.theory.specs.list.LabelValues.{graph-labels-one}
 use Rattle.theory.specs.list.Progress.{Doable}
 use Rattle.theory.specs.list.OneListSchedule.{stepped-same, list-starts-one}
 
 -- ---- what the checks leave
 -- without a cycle to show there are earliest starts
-pub uncycled : (o : Order) → Closed o → First (cyclic o) none → EarliestRow o
+pub uncycled : {heaviest : ℕ} (o : Order) → Closed heaviest o → First (cyclic o) none → EarliestRow o
 unfolding First
 uncycled o c h =
     acyclic-earliest c
@@ -115,7 +115,7 @@ pub moves-one : (g : Graph) (units t : List ℕ) (step : ℕ) (a b : List ℕ) (
     → (a ≡ b) × (m ≡ n)
 moves-one g units t step a b m n x y = (
   x .starts
-      ∙ stepped-same g (x .labels) (y .labels) units (labels-one g (x .labels) (y .labels) (x .are-labels) (y .are-labels)) t step
+      ∙ stepped-same g (x .labels) (y .labels) units (graph-labels-one g (x .labels) (y .labels) (x .are-labels) (y .are-labels)) t step
       ∙ sym (y .starts),
   x .further ∙ sym (y .further),
 )

@@ -15,7 +15,7 @@ use Rattle.maths.specs.Counting.{count-same}
 use Rattle.model.specs.Limits as limit
 use Rattle.model.specs.Graph.{Graph, Sound, many, delay, typeOf}
 use Rattle.model.specs.Rule.{placed, candidate, ahead, candidatesAhead, startsNow, stepped, AllPlaced, after, ListStarts}
-use Rattle.theory.specs.list.LabelValues.{labels-one}
+use Rattle.theory.specs.list.LabelValues.{graph-labels-one}
 use Rattle.theory.specs.list.OneStep.{ahead-same, starts-is, is-starts, starts-unplaced, stepped-long, starts-at, stays-at}
 use Rattle.theory.specs.list.Progress.{Doable, allDelays, all-finished}
 
@@ -85,7 +85,7 @@ module _ (g : Graph) (labels units : List ℕ) where
 -- any two list schedules are equal
 pub list-starts-one : (g : Graph) (units s t : List ℕ) → ListStarts g units s → ListStarts g units t → s ≡ t
 list-starts-one g units s t x y =
-    let same = after-same g (x .labels) (y .labels) units (labels-one g (x .labels) (y .labels) (x .are-labels) (y .are-labels)) in
+    let same = after-same g (x .labels) (y .labels) units (graph-labels-one g (x .labels) (y .labels) (x .are-labels) (y .are-labels)) in
     let joined : after g (x .labels) units (x .rounds) ≡ after g (y .labels) units (y .rounds) =
     ⊎-elim
     (λ up.

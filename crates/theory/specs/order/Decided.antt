@@ -13,7 +13,7 @@ pub record EarliestRow (o : Order) : Type 0 where
   pub row : List ℕ
   pub earliest : Earliest o row
 
-module _ {o : Order} (c : Closed o) where
+module _ {heaviest : ℕ} {o : Order} (c : Closed heaviest o) where
   -- whether a cycle reaches i is decided: i is left unplaced or it is not
   pub kept-decided : (i : ℕ) → i < size o → Kept o i ⊎ (Kept o i → ⊥)
   kept-decided i l =

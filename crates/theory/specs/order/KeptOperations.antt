@@ -46,7 +46,7 @@ kept-behind {o} k =
       };
     }
 
-module _ {o : Order} (c : Closed o) where
+module _ {heaviest : ℕ} {o : Order} (c : Closed heaviest o) where
   -- an edge enters an operation
   pub edge-target : {i j : ℕ} → Edge o i j → j < size o
   edge-target k = subst (λ (n : ℕ). n < size o) (k .enters) (c .target-in (k .number) (k .inside))

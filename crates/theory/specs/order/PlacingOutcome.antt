@@ -1,8 +1,8 @@
 -- What a placing says of its order: it is the only one and there is one; what it leaves is what a cycle reaches; whole, it is the earliest starts.
-use mathlib.Core.Path.{_≡_, refl, sym, ap, _∙_}
+use mathlib.Core.Path.{_≡_, refl, sym, ap, subst, _∙_}
 use mathlib.Core.Logic.{_⊎_, inl, inr, ⊎-elim}
 use mathlib.Core.List.{List}
-use Prim.Native.Nat.{ℕ, zero, suc, _+_, _≤_, _<_}
+use Prim.Native.Nat.{ℕ, zero, suc, _+_, _*_, _≤_, _<_}
 use native.Mathlib.Nat.{eq-zero-or-pos, le-refl}
 use native.Mathlib.Numerals.{add-one}
 use native.Mathlib.Omega.{arith}
@@ -17,7 +17,7 @@ use Rattle.model.specs.Order.{Order, size, edgeCount, weight, source, target, C
 use Rattle.model.specs.Placing.{MayStart, StartsAt, Waits, Placing}
 use Rattle.model.specs.Tables.{Keeps, Earliest}
 use Rattle.theory.specs.order.KeptOperations.{kept-inside}
-use Rattle.theory.specs.order.PlacingSteps.{Seen, seen-none, seen-other, seen-step, seen-end, later, Part, part-none, part-more, part-whole, more-set}
+use Rattle.theory.specs.order.PlacingSteps.{Seen, seen-none, seen-other, seen-step, seen-end, later, Part, part-none, part-more, part-low, part-whole, more-set}
 
 -- the edge that an operation waits for
 waited : {o : Order} {s : List ℕ} {i : ℕ} (x : Waits o s i) → Edge o (source o (x .edge)) i
@@ -27,7 +27,7 @@ waited x = record { number = x .edge; inside = x .inside; leaves = refl; enters 
 keeps-may : {o : Order} {u : List ℕ} → Keeps o u → (i : ℕ) → i < size o → MayStart o u i (at u i)
 keeps-may {o} {u} k i l = record { from-one = k .from-one i l; after = λ e y t. omega (arith, k .edges e y, ap (at u) t) }
 
-module _ {o : Order} {s : List ℕ} {r : ℕ} (c : Closed o) (p : Placing o s r) where
+module _ {heaviest : ℕ} {o : Order} {s : List ℕ} {r : ℕ} (c : Closed heaviest o) (p : Placing o s r) where
   -- what is placed is an operation
   placed-inside : (i : ℕ) → 1 ≤ at s i → i < size o
   placed-inside i m = ⊎-elim (λ l. l) (λ l. absurd (omega (arith, p .rest i l))) (lt-or-le i (size o))
@@ -156,7 +156,7 @@ module _ {o : Order} {s : List ℕ} {r : ℕ} (c : Closed o) (p : Placing o s r)
       let k = placing-kept (f .place) (f .lowest .inside) (f .lowest .holds) in
       record { operation = k .origin; around = k .around }
 
-module _ {o : Order} (c : Closed o) where
+module _ {heaviest : ℕ} {o : Order} (c : Closed heaviest o) where
   -- one placing's starts are no later than another's
   no-later : {s s′ : List ℕ} {r r′ : ℕ} → Placing o s r → Placing o s′ r′ → (i : ℕ) → i < size o → at s i ≤ at s′ i
   no-later {s} {s′} p p′ i l =
@@ -179,11 +179,12 @@ module _ {o : Order} (c : Closed o) where
       let same : s ≡ s′ = same-row s s′ (p .long ∙ sym (p′ .long)) each in
       (same, p .counts ∙ ap (λ (l : List ℕ). marks l (size o)) same ∙ sym (p′ .counts))
 
--- a placing of an order
-pub record SomePlacing (o : Order) : Type 0 where
+-- a placing of an order, in which no start is above what all operations can add up to
+pub record SomePlacing (heaviest : ℕ) (o : Order) : Type 0 where
   pub row : List ℕ
   pub number : ℕ
   pub is : Placing o row number
+  pub low : (i : ℕ) → at row i ≤ 1 + heaviest * size o
 
 -- the first step that the edges below e allow i
 record Allowed (o : Order) (s : List ℕ) (i e : ℕ) : Type 0 where
@@ -234,16 +235,17 @@ module _ {o : Order} where
       (same-or-not (at s i) 0)
 
   -- no operation can be placed any more
-  whole : (s : List ℕ) → Part o s → None (Next o s) (size o) → SomePlacing o
-  whole s h none = record {
+  whole : {heaviest : ℕ} (s : List ℕ) → Part heaviest o s → None (Next o s) (size o) → SomePlacing heaviest o
+  whole {heaviest} s h none = record {
     row = s;
     number = marks s (size o);
     is = part-whole h (λ i l z. ⊎-elim (λ n. absurd (none i l n)) (λ x. x) (next-or-waits s i z)) refl;
+    low = part-low h;
   }
 
-module _ {o : Order} (c : Closed o) where
+module _ {heaviest : ℕ} {o : Order} (c : Closed heaviest o) where
   -- place the lowest that can be placed, again and again: each time fewer are left
-  place-on : (fuel : ℕ) (s : List ℕ) → Part o s → size o ≤ marks s (size o) + fuel → SomePlacing o
+  place-on : (fuel : ℕ) (s : List ℕ) → Part heaviest o s → size o ≤ marks s (size o) + fuel → SomePlacing heaviest o
   place-on zero s h full =
       whole s h (λ i l n. absurd (omega (arith, marks-lt s (size o) i l (n .free))))
   place-on (suc fuel) s h full =
@@ -257,7 +259,13 @@ module _ {o : Order} (c : Closed o) where
       (find (Next o s) (size o) (λ i l. next-decided s i))
 
   -- every order has a placing
-  pub placing-exists : SomePlacing o
+  pub placing-exists : SomePlacing heaviest o
   placing-exists =
       let s : List ℕ = replicate limit.operations 0 in
       place-on (size o) s (part-none (length-replicate {A = ℕ} limit.operations 0) (blank limit.operations)) (omega arith)
+
+  -- no start of a placing is above what all operations can add up to
+  pub placing-low : {s : List ℕ} {r : ℕ} → Placing o s r → (i : ℕ) → at s i ≤ 1 + heaviest * size o
+  placing-low p i =
+      let q = placing-exists in
+      subst (λ (s : List ℕ). at s i ≤ 1 + heaviest * size o) (placing-one c (q .is) p .0) (q .low i)

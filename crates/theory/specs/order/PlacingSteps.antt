@@ -3,7 +3,7 @@ use mathlib.Core.Path.{_≡_, refl, sym, ap, subst, _∙_}
 use mathlib.Core.Logic.{⊎-elim}
 use mathlib.Core.List.{List}
 use Prim.Native.Nat.{ℕ, zero, suc, _+_, _*_, _≤_, _<_, max}
-use native.Mathlib.Nat.{not-suc-le-zero, eq-zero-or-pos}
+use native.Mathlib.Nat.{not-suc-le-zero, eq-zero-or-pos, mul-le-mul-left, mul-suc}
 use native.Mathlib.Omega.{arith}
 use borrow.Author.Count.{below-more}
 use lib.ListN.{length, set, length-set}
@@ -91,11 +91,11 @@ module _ {o : Order} {s : List ℕ} {i : ℕ} where
   }
 
 -- part of the order is placed: each start is the first possible, and none is above what as many operations as are placed can add up to
-pub record Part (o : Order) (s : List ℕ) : Type 0 where
+pub record Part (heaviest : ℕ) (o : Order) (s : List ℕ) : Type 0 where
   pub long : length s ≡ limit.operations
   pub starts : (i : ℕ) → i < size o → 1 ≤ at s i → StartsAt o s i (at s i)
   pub rest : (i : ℕ) → size o ≤ i → at s i ≡ 0
-  pub low : (i : ℕ) → at s i ≤ 1 + limit.longest * marks s (size o)
+  pub low : (i : ℕ) → at s i ≤ 1 + heaviest * marks s (size o)
 
 -- s has every start of s₀
 pub record Grown (s₀ s : List ℕ) : Type 0 where
@@ -109,6 +109,14 @@ pub record More (o : Order) (s₀ s : List ℕ) (r : ℕ) : Type 0 where
   pub rest : (i : ℕ) → size o ≤ i → at s i ≡ at s₀ i
   pub counts : marks s (size o) ≡ marks s₀ (size o) + r
   pub none : r ≡ 0 → (i : ℕ) → i < size o → at s₀ i ≡ 0 → at s i ≡ 0
+
+-- so many times a weight, and once more
+one-more : (weight a b : ℕ) → suc a ≤ b → weight * a + weight ≤ weight * b
+one-more weight a b l = omega (arith, mul-le-mul-left weight l, mul-suc weight a)
+
+-- a sum is no less than what it begins with
+grows : (a b r : ℕ) → b ≡ a + r → a ≤ b
+grows a b r e = omega arith
 
 -- a first possible start stays one, as all that it reads is placed already
 pub starts-grown : {o : Order} {s₀ s : List ℕ} {i b : ℕ} → Grown s₀ s → StartsAt o s₀ i b → StartsAt o s i b
@@ -126,9 +134,9 @@ starts-grown {o} {s₀} {s} {i} {b} g h = record {
       });
 }
 
-module _ {o : Order} where
+module _ {heaviest : ℕ} {o : Order} where
   -- nothing is placed
-  pub part-none : {s : List ℕ} → length s ≡ limit.operations → ((i : ℕ) → at s i ≡ 0) → Part o s
+  pub part-none : {s : List ℕ} → length s ≡ limit.operations → ((i : ℕ) → at s i ≡ 0) → Part heaviest o s
   part-none long z = record {
     long = long;
     starts = λ i l p. absurd (omega (arith, z i));
@@ -136,11 +144,11 @@ module _ {o : Order} where
     low = λ i. omega (arith, z i);
   }
 
-  module _ (c : Closed o) {s₀ s : List ℕ} {r : ℕ} (h : Part o s₀) (m : More o s₀ s r) where
-    -- a new start lies at most the longest delay above what bounds the old ones
-    top : {i b : ℕ} → StartsAt o s₀ i b → b ≤ 1 + limit.longest * marks s₀ (size o) + limit.longest
+  module _ (c : Closed heaviest o) {s₀ s : List ℕ} {r : ℕ} (h : Part heaviest o s₀) (m : More o s₀ s r) where
+    -- a new start lies at most the heaviest weight above what bounds the old ones
+    top : {i b : ℕ} → StartsAt o s₀ i b → b ≤ 1 + heaviest * marks s₀ (size o) + heaviest
     top d =
-        d .least (1 + limit.longest * marks s₀ (size o) + limit.longest)
+        d .least (1 + heaviest * marks s₀ (size o) + heaviest)
         (record {
           from-one = omega arith;
           after = λ e l q. omega (arith, h .low (source o e), c .small (source o e) (c .source-in e l));
@@ -155,15 +163,15 @@ module _ {o : Order} where
         (eq-zero-or-pos (at s₀ i))
 
     -- a new start counts: r is not 0
-    low-new : (i : ℕ) → i < size o → at s₀ i ≡ 0 → 1 ≤ at s i → at s i ≤ 1 + limit.longest * marks s (size o)
+    low-new : (i : ℕ) → i < size o → at s₀ i ≡ 0 → 1 ≤ at s i → at s i ≤ 1 + heaviest * marks s (size o)
     low-new i l z p =
         ⊎-elim
         (λ q. absurd (omega (arith, m .none q i l z)))
-        (λ q. omega (arith, top (m .new i l z p), m .counts))
+        (λ q. omega (arith, top (m .new i l z p), one-more heaviest (marks s₀ (size o)) (marks s (size o)) (omega (arith, m .counts))))
         (eq-zero-or-pos r)
 
     -- the bound rises with the count
-    low-more : (i : ℕ) → at s i ≤ 1 + limit.longest * marks s (size o)
+    low-more : (i : ℕ) → at s i ≤ 1 + heaviest * marks s (size o)
     low-more i =
         ⊎-elim
         (λ z.
@@ -171,11 +179,11 @@ module _ {o : Order} where
         (λ l. ⊎-elim (λ y. omega arith) (low-new i l z) (eq-zero-or-pos (at s i)))
         (λ l. omega (arith, m .rest i l))
         (lt-or-le i (size o)))
-        (λ q. omega (arith, m .grown .kept i q, h .low i, m .counts))
+        (λ q. omega (arith, m .grown .kept i q, h .low i, mul-le-mul-left heaviest (grows (marks s₀ (size o)) (marks s (size o)) r (m .counts))))
         (eq-zero-or-pos (at s₀ i))
 
     -- what was placed keeps its place, and what is new has the first possible one
-    pub part-more : Part o s
+    pub part-more : Part heaviest o s
     part-more = record {
       long = m .long ∙ h .long;
       starts = starts-more;
@@ -184,7 +192,7 @@ module _ {o : Order} where
     }
 
   -- i alone is placed
-  pub more-set : Closed o → {s : List ℕ} → Part o s → {i b : ℕ} → i < size o → at s i ≡ 0 → StartsAt o s i b → More o s (set s i b) 1
+  pub more-set : Closed heaviest o → {s : List ℕ} → Part heaviest o s → {i b : ℕ} → i < size o → at s i ≡ 0 → StartsAt o s i b → More o s (set s i b) 1
   more-set c {s} h {i} {b} l z d =
       let inside : i < length s = omega (arith, c .few, h .long) in
       let here : at (set s i b) i ≡ b = getD-set-same s i b 0 inside in
@@ -202,13 +210,16 @@ module _ {o : Order} where
         none = λ y. absurd (omega arith);
       }
 
+  -- no start is above what all operations can add up to
+  pub part-low : {s : List ℕ} → Part heaviest o s → (i : ℕ) → at s i ≤ 1 + heaviest * size o
+  part-low {s} h i = omega (arith, h .low i, mul-le-mul-left heaviest (marks-le s (size o)))
+
   -- where all that is left waits, the placing is whole
-  pub part-whole : {s : List ℕ} {r : ℕ} → Part o s → ((i : ℕ) → i < size o → at s i ≡ 0 → Waits o s i) → r ≡ marks s (size o) → Placing o s r
+  pub part-whole : {s : List ℕ} {r : ℕ} → Part heaviest o s → ((i : ℕ) → i < size o → at s i ≡ 0 → Waits o s i) → r ≡ marks s (size o) → Placing o s r
   part-whole {s} h stuck e = record {
     long = h .long;
     starts = h .starts;
     waits = stuck;
     rest = h .rest;
-    low = λ i. omega (arith, h .low i, marks-le s (size o));
     counts = e;
   }

@@ -149,7 +149,7 @@ has-unit g units s h i l =
 
 -- ---- what precedence reads of a sound graph
 -- it has all that the definitions over an order lean on
-pub closed : (g : Graph) → Sound g → Closed (order g)
+pub closed : (g : Graph) → Sound g → Closed limit.longest (order g)
 closed g s = record {
   few = s .few;
   few-edges = s .few-edges;
@@ -161,7 +161,7 @@ closed g s = record {
 }
 
 -- the other way round the same holds
-pub closed-turned : (o : Order) → Closed o → Closed (turned o)
+pub closed-turned : {heaviest : ℕ} (o : Order) → Closed heaviest o → Closed heaviest (turned o)
 closed-turned o c = record {
   few = c .few;
   few-edges = omega (arith, c .few-edges, c .even);
@@ -170,4 +170,16 @@ closed-turned o c = record {
   target-in = λ e l. c .source-in e (omega (arith, c .even));
   positive = c .positive;
   small = c .small;
+}
+
+-- and a heavier weight may be allowed
+pub closed-heavier : {light heavy : ℕ} (o : Order) → light ≤ heavy → Closed light o → Closed heavy o
+closed-heavier o l c = record {
+  few = c .few;
+  few-edges = c .few-edges;
+  even = c .even;
+  source-in = c .source-in;
+  target-in = c .target-in;
+  positive = c .positive;
+  small = λ i m. omega (arith, c .small i m);
 }

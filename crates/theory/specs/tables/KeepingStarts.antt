@@ -8,7 +8,7 @@ use Rattle.model.specs.Order.{Order, size, source, target, Closed, Edge, Walk, 
 use Rattle.model.specs.Tables.{Keeps, Within, Earliest, Latest}
 
 -- ---- tables go by the entries of operations alone
-module _ (o : Order) (c : Closed o) (s t : List ℕ) (same : (i : ℕ) → i < size o → at s i ≡ at t i) where
+module _ {heaviest : ℕ} (o : Order) (c : Closed heaviest o) (s t : List ℕ) (same : (i : ℕ) → i < size o → at s i ≡ at t i) where
   pub keeps-same : Keeps o s → Keeps o t
   keeps-same k = record {
     from-one = λ i l. omega (arith, same i l, k .from-one i l);
@@ -32,7 +32,7 @@ module _ (o : Order) (c : Closed o) (s t : List ℕ) (same : (i : ℕ) → i < s
   }
 
 -- ---- where starts keep the order, they rise along walks: so no cycle
-module _ (o : Order) (c : Closed o) (t : List ℕ) (k : Keeps o t) where
+module _ {heaviest : ℕ} (o : Order) (c : Closed heaviest o) (t : List ℕ) (k : Keeps o t) where
   edge-rises : {i j : ℕ} → Edge o i j → at t i < at t j
   edge-rises {i} {j} e =
       let kept = k .edges (e .number) (e .inside) in

@@ -15,7 +15,7 @@ use Rattle.theory.specs.tables.KeepingStarts.{within-same}
 unfoldable pub mirror : Order → ℕ → List ℕ → List ℕ
 mirror o bound t = tabulate (λ i. bound + 2 - weight o i - at t i) (size o)
 
-module _ (o : Order) (c : Closed o) (bound : ℕ) (t : List ℕ) (k : Keeps o t) (w : Within o bound t) where
+module _ {heaviest : ℕ} (o : Order) (c : Closed heaviest o) (bound : ℕ) (t : List ℕ) (k : Keeps o t) (w : Within o bound t) where
   pub mirror-at : (i : ℕ) → i < size o → at (mirror o bound t) i + weight o i + at t i ≡ bound + 2
   unfolding mirror
   mirror-at i l = omega (arith, tabulate-at (λ i. bound + 2 - weight o i - at t i) (size o) i l, w .ends i l)
@@ -31,7 +31,7 @@ module _ (o : Order) (c : Closed o) (bound : ℕ) (t : List ℕ) (k : Keeps o t)
         omega arith;
   }
 
-module _ (o : Order) (c : Closed o) (bound : ℕ) where
+module _ {heaviest : ℕ} (o : Order) (c : Closed heaviest o) (bound : ℕ) where
   -- u are the earliest starts turned round and s keeps the order within the bound: then t, where t + d + u is bound + 2, are the latest starts
   pub latest-turned : (s u t : List ℕ) → Keeps o s → Within o bound s → Earliest (turned o) u
       → ((i : ℕ) → i < size o → at t i ≡ bound + 2 - weight o i - at u i) → Latest o bound t
@@ -61,7 +61,7 @@ pub latency-within : (o : Order) (t : List ℕ) (l bound : ℕ) → Latency o t 
 latency-within o t l bound h up = record { ends = λ i m. omega (arith, h .within .ends i m) }
 
 -- such a bound is not below the ASAP latency: the latency of any earliest starts is that of these
-pub not-late : (o : Order) → Closed o → (early : List ℕ) → Earliest o early → (l bound : ℕ) → Latency o early l → l ≤ bound → Late o bound → ⊥
+pub not-late : {heaviest : ℕ} (o : Order) → Closed heaviest o → (early : List ℕ) → Earliest o early → (l bound : ℕ) → Latency o early l → l ≤ bound → Late o bound → ⊥
 not-late o closed early is l bound ends up x =
     let same = earliest-starts-one o early (x .asap) is (x .earliest) in
     let inside = within-same o closed early (x .asap) same bound (latency-within o early l bound ends up) in
