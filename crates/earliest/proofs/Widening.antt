@@ -21,6 +21,7 @@ pub record Copied (source row : List ℕ) (i : ℕ) : Type 0 where
   pub rest : (k : ℕ) → i ≤ k → at row k ≡ 0
 
 module _ {source : List ℕ} where
+  -- nothing is copied yet
   pub copied-none : Copied source (replicate limit.operations 0) 0
   copied-none = record {
     long = length-replicate {A = ℕ} limit.operations 0;
@@ -28,6 +29,7 @@ module _ {source : List ℕ} where
     rest = λ k l. blank limit.operations k;
   }
 
+  -- one entry more is the source's
   pub copied-step : {row : List ℕ} {i : ℕ} → Copied source row i → i < limit.operations → Copied source (set row i (at source i)) (i + 1)
   copied-step {row} {i} h l = record {
     long = length-set row i (at source i) ∙ h .long;
@@ -77,5 +79,6 @@ module _ {delays from to weights : List ℕ} (c : Closed limit.longest (ordered 
     pub starts-low : (i : ℕ) → at starts i ≤ heaviest
     starts-low i = omega (arith, placing-low c delays-placed i, c .few)
 
+    -- so in 16 bits they are the same placing
     pub delays-narrowed : {row : List ℕ} → row ≡ starts → Placing (ordered delays from to) row placed
     delays-narrowed e = subst (λ (row : List ℕ). Placing (ordered delays from to) row placed) (sym e) delays-placed

@@ -11,6 +11,6 @@ heaviest = 65535
 abbrev pub lastStep : ℕ
 lastStep = 4294967295
 
--- what all operations can add up to is such a step
-pub steps-fit : 1 + heaviest * limit.operations ≤ lastStep
+-- what all operations can add up to is such a step, with one weight more too
+pub steps-fit : 1 + heaviest * limit.operations + heaviest ≤ lastStep
 steps-fit = omega arith

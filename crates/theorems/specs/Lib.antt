@@ -2,6 +2,7 @@ pub mod CyclesShown
 pub mod TablesExist
 pub mod OneByOne
 pub mod ListSchedule
+pub mod Labels
 pub mod Advances
 pub mod PeakUse
 pub mod Checker

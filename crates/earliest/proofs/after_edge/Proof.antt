@@ -1,5 +1,6 @@
 -- `earliest::after_edge` meets its contract: each return is a case of `later`, by the tests that led there.
 use mathlib.Core.Path.{sym}
+use Rattle.earliest.specs.Widths.{steps-fit}
 use Rattle.earliest.proofs.Later.{later-waits, later-end, later-same}
 use native.Mathlib.Omega.{arith}
 use borrow.Author.Needs.{needs}
@@ -13,7 +14,7 @@ returns-2 : tie.Need-returns-2
 returns-2 c = let a = c .before .before .args in sym (later-waits (a .step) (a .start) (a .weight) (c .if2 .taken))
 
 add-end : tie.Need-add-end
-add-end c = search needs
+add-end c = omega (arith, steps-fit)
 
 returns-3 : tie.Need-returns-3
 returns-3 c =

@@ -31,6 +31,7 @@ module _ {heaviest : ℕ} (o : Order) (c : Closed heaviest o) (s : List ℕ) (h 
   falls : (e : ℕ) → e < edgeCount o → at s (target o e) + weight o (target o e) ≤ at s (source o e)
   falls e l = h .keeps .edges e (omega (arith, c .even))
 
+  -- and starts at 1 or later
   from-one : (i : ℕ) → i < size o → 1 ≤ at s i
   from-one i l = h .keeps .from-one i l
 
@@ -52,6 +53,7 @@ module _ {heaviest : ℕ} (o : Order) (c : Closed heaviest o) (s : List ℕ) (h 
     leaves : source o e ≡ i
     exactly : at s (target o e) + weight o (target o e) ≡ at s i
 
+  -- which is decided
   steep-or-not : (i e : ℕ) → Steep i e ⊎ (Steep i e → ⊥)
   steep-or-not i e =
       ⊎-elim
@@ -65,20 +67,25 @@ module _ {heaviest : ℕ} (o : Order) (c : Closed heaviest o) (s : List ℕ) (h 
 
   -- were there none, i could be lowered
   module _ (i : ℕ) (l : i < size o) (more : 1 < at s i) (none : None (Steep i) (edgeCount o)) where
+    -- s with i one lower
     lowered : List ℕ
     lowered = set s i (at s i - 1)
 
+    -- its entry at i
     here : at lowered i ≡ at s i - 1
     unfolding lowered
     here = getD-set-same s i (at s i - 1) 0 (⊎-elim (λ p. p) (λ p. absurd (omega (arith, past s i p))) (lt-or-le i (length s)))
 
+    -- and elsewhere
     there : (j : ℕ) → (j ≡ i → ⊥) → at lowered j ≡ at s j
     unfolding lowered
     there j n = getD-set-other s i j (at s i - 1) 0 n
 
+    -- it is nowhere above s
     never-more : (j : ℕ) → at lowered j ≤ at s j
     never-more j = ⊎-elim (λ q. omega (arith, here, ap (at lowered) q, ap (at s) q)) (λ n. omega (arith, there j n)) (same-or-not j i)
 
+    -- it falls along each edge still
     still : (e : ℕ) → e < edgeCount o → at lowered (target o e) + weight o (target o e) ≤ at lowered (source o e)
     still e b =
         ⊎-elim
@@ -88,6 +95,7 @@ module _ {heaviest : ℕ} (o : Order) (c : Closed heaviest o) (s : List ℕ) (h 
         (λ n. omega (arith, falls e b, never-more (target o e), there (source o e) n))
         (same-or-not (source o e) i)
 
+    -- so it keeps the order turned round
     keeps : Keeps (turned o) lowered
     keeps = record {
       from-one = λ j m.
@@ -98,6 +106,7 @@ module _ {heaviest : ℕ} (o : Order) (c : Closed heaviest o) (s : List ℕ) (h 
       edges = λ e m. still e (omega (arith, c .even));
     }
 
+    -- but s is the earliest that does
     cannot : ⊥
     cannot = omega (arith, h .least lowered keeps i l, here)
 
@@ -142,6 +151,7 @@ longer (one d) e = more d (one e)
 longer (more d w) e = more d (longer w e)
 
 module _ {heaviest : ℕ} (o : Order) (c : Closed heaviest o) where
+  -- an edge of the order turned round, turned back
   edge-back : {i j : ℕ} → Edge (turned o) i j → Edge o j i
   edge-back e = record {
     number = e .number;
@@ -150,6 +160,7 @@ module _ {heaviest : ℕ} (o : Order) (c : Closed heaviest o) where
     enters = e .leaves;
   }
 
+  -- and so a walk
   walk-back : {i j : ℕ} → Walk (turned o) i j → Walk o j i
   walk-back (one e) = one (edge-back e)
   walk-back (more e w) = longer (walk-back w) (edge-back e)
@@ -173,7 +184,7 @@ module _ (g : Graph) where
   label-size = length-replicate {A = ℕ} (many g) 1
 
   -- each of them weighs 1
-  label-weight : (i : ℕ) → i < many g → weight (labelOrder g) i ≡ 1
+  pub label-weight : (i : ℕ) → i < many g → weight (labelOrder g) i ≡ 1
   label-weight i l = getD-replicate (many g) i 1 0 l
 
   -- it is closed as the graph's own order is
@@ -190,6 +201,7 @@ module _ (g : Graph) where
         small = λ i l. omega (arith, label-weight i (inside i l), c .positive i (inside i l), c .small i (inside i l));
       }
 
+  -- its walks are the graph's
   label-walk : {i j : ℕ} → Walk (labelOrder g) i j → Walk (order g) i j
   label-walk (one e) = one (record { number = e .number; inside = e .inside; leaves = e .leaves; enters = e .enters })
   label-walk (more e w) =

@@ -20,7 +20,7 @@ use Rattle.theory.specs.list.OneStep.{ahead-same, starts-is, is-starts, 
 use Rattle.theory.specs.list.Progress.{Doable, allDelays, all-finished}
 
 -- ---- one value
--- two rows of labels that agree on the operations
+-- two rows of keys that agree on the operations
 module _ (g : Graph) (a b units : List ℕ) (same : (i : ℕ) → i < many g → at a i ≡ at b i) where
   -- as many candidates come before an operation by either
   ahead-count : (t : List ℕ) (l i : ℕ) → i < many g → candidatesAhead g a t l i ≡ candidatesAhead g b t l i

@@ -142,7 +142,7 @@ ahead-linear labels = record {
       (lt-or-le (at labels i) (at labels j));
 }
 
--- who is ahead goes by the labels of the two alone
+-- who is ahead goes by the keys of the two alone
 pub ahead-same : (a b : List ℕ) (j i : ℕ) → at a j ≡ at b j → at a i ≡ at b i → ahead a j i ≡ ahead b j i
 unfolding ahead
 ahead-same a b j i p q = rw (p, q)
