@@ -18,10 +18,10 @@ use Rattle.model.specs.Tables.{Keeps, Within, Mobility}
 use Rattle.theory.specs.tables.KeepingStarts.{keeps-acyclic}
 use Rattle.theory.specs.tables.OneTable.{mobility-one}
 use Rattle.theory.specs.cycle.SomeShown.{shown-cyclic}
-use Rattle.model.specs.Refusals.{Check, First, Flat, Late, shape, output, unitless, cyclic, large-bound, late-bound}
+use Rattle.model.specs.Refusals.{Check, First, Flat, Late, shape, output, unitless, cyclic, large-bound, late-bound, product, ManyWindows, ListerUneven}
 use Rattle.theory.specs.refusals.FirstRefusal.{first-pass, first-says, first-silent, first-end, flat-says, flat-silent, at-lowest-silent}
 use Rattle.theory.specs.refusals.SoundGraph.{not-large, not-uneven, good-operation, good-edge, shape-silent, closed}
-use Rattle.model.specs.Listing.{product, ManyWindows, ListerUneven, listerChecks}
+use Rattle.model.specs.Checks.{listerChecks}
 
 -- within the limits, rows that match, and every entry in its range: `Sound`, as a test
 unfoldable pub isSound : Graph → Bool

@@ -19,16 +19,17 @@ use Rattle.model.specs.Graph.{Graph, order, many, edgesOf, Sound}
 use Rattle.model.specs.Cycle.{Shown}
 use Rattle.model.specs.Tables.{Mobility, Asap}
 use Rattle.model.specs.Use.{runs}
-use Rattle.model.specs.Refusals.{First, CycleOf, shape, output, unitless, cyclic, large-bound}
+use Rattle.model.specs.Refusals.{First, CycleOf, shape, output, unitless, cyclic, large-bound, CheckUneven, product, ListerUneven}
 use Rattle.theory.specs.refusals.FirstRefusal.{first-pass, first-says}
 use Rattle.theory.specs.refusals.SoundGraph.{closed}
 use Rattle.model.specs.Answers.{Fills}
 use Rattle.theory.specs.refusals.RowAfterwards.{row-cycle}
 use Rattle.model.specs.Faults as fault
-use Rattle.model.specs.Verdicts.{CheckUneven, checkChecks, Finds}
+use Rattle.model.specs.Verdicts.{Finds}
 use Rattle.theorems.specs.AllListed.{is-lawful}
 use Rattle.theory.specs.unit_use.OneVerdict.{timely-operation}
-use Rattle.model.specs.Listing.{isLawful, product, ListerUneven}
+use Rattle.model.specs.Listing.{isLawful}
+use Rattle.model.specs.Checks.{checkChecks}
 use Rattle.acceptance.specs.Passing.{isSound, is-sound, shape-passes, output-passes, units-pass, cyclic-passes, large-passes, windows-pass, windows-refuse, tenth-decides}
 use Rattle.acceptance.specs.Free.{plainGraph, twoStarts, free-mobility, empty-mobility, row-of-two, row-mobility, below-one, below-two}
 use Rattle.acceptance.specs.Circles.{ring, ring-shown, tail, tail-shown}

@@ -11,10 +11,10 @@ use Rattle.maths.specs.Cases.{Tells, same-or-not, equal}
 use Rattle.maths.specs.Tests.{off}
 use Rattle.model.specs.Limits as limit
 use Rattle.model.specs.Graph.{Graph, order, many, Sound}
-use Rattle.model.specs.Refusals.{Check, First, shape, unitless, cyclic, large-bound}
+use Rattle.model.specs.Refusals.{Check, First, shape, unitless, cyclic, large-bound, CheckUneven}
 use Rattle.theory.specs.refusals.FirstRefusal.{first-hit, first-pass, first-none-append, flat-not}
 use Rattle.theory.specs.refusals.SoundGraph.{shape-own-then, own-not, sound}
-use Rattle.model.specs.Verdicts.{CheckUneven, checkChecks}
+use Rattle.model.specs.Checks.{checkChecks}
 use Rattle.checker.specs.Findings.{Askable}
 
 -- `even` tells whether both rows that only the checker takes match

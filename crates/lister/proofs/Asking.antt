@@ -13,13 +13,13 @@ use Rattle.maths.specs.TellLaws.{on}
 use Rattle.maths.specs.Rows.{at}
 use Rattle.model.specs.Limits as limit
 use Rattle.model.specs.Graph.{Graph, order, many, lent, Sound}
-use Rattle.model.specs.Refusals.{Check, First, Flat, output, unitless, cyclic, large-bound, late-bound}
+use Rattle.model.specs.Refusals.{Check, First, Flat, output, unitless, cyclic, large-bound, late-bound, ListerUneven, ManyWindows}
 use Rattle.theory.specs.refusals.FirstRefusal.{first-pass, Never, never-append}
 use Rattle.theory.specs.refusals.SoundGraph.{shape-own-then}
 use Rattle.model.specs.Answers.{refusalOf, numbered, Answered}
 use Rattle.theory.specs.refusals.RowAfterwards.{answered-refused, answered-passed, refused-stays, row-is, row-given}
 use Rattle.theory.specs.refusals.CycleAndBounds.{large-bound-never, late-bound-never}
-use Rattle.model.specs.Listing.{ListerUneven, ManyWindows, Gives, ListerAnswer}
+use Rattle.model.specs.Listing.{Gives, ListerAnswer}
 use Rattle.model.specs.declared.Answer.{Answer}
 use Rattle.model.specs.declared.Answer.the-variants.{Done, Refused}
 use Rattle.model.specs.declared.Refusal.{Refusal}

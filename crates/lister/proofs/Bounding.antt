@@ -12,10 +12,9 @@ use Rattle.model.specs.Tables.{Earliest, Latency, Mobility}
 use Rattle.theory.specs.tables.KeepingStarts.{earliest-same, latest-same}
 use Rattle.theory.specs.tables.LatestTurned.{latency-within, not-late, asap-alap}
 use Rattle.theory.specs.tables.OneTable.{mobility-one}
-use Rattle.model.specs.Refusals.{First, large-bound, late-bound}
+use Rattle.model.specs.Refusals.{First, large-bound, late-bound, product, ManyWindows}
 use Rattle.theory.specs.refusals.FirstRefusal.{first-hit, first-pass, first-says, first-silent, first-end, flat-says, flat-silent}
 use Rattle.theory.specs.refusals.RefusalNumbers.{refused-passes}
-use Rattle.model.specs.Listing.{product, ManyWindows}
 use Rattle.model.specs.declared.Answer.the-variants.{Done, Refused}
 use Rattle.model.specs.declared.Refusal.the-variants.{BoundTooLarge, BoundTooSmall, TooManyWindows}
 use Rattle.tables.specs.Admitted.{RoomWithin, LatestRow}

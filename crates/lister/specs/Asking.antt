@@ -9,9 +9,9 @@ use Rattle.maths.specs.Rows.{over}
 use Rattle.model.specs.Limits as limit
 use Rattle.model.specs.Graph.{Graph, order, many, Sound}
 use Rattle.model.specs.Tables.{Earliest, Latest}
-use Rattle.model.specs.Refusals.{Check, Flat, First, shape, output, unitless, cyclic, large-bound, late-bound}
+use Rattle.model.specs.Refusals.{Check, Flat, First, shape, output, unitless, cyclic, large-bound, late-bound, ListerUneven, ManyWindows}
 use Rattle.model.specs.Answers.{Answered, refusalOf}
-use Rattle.model.specs.Listing.{ListerUneven, ManyWindows, Gives, refusalInListed}
+use Rattle.model.specs.Listing.{Gives, refusalInListed}
 use Rattle.lister.specs.Search.{Job}
 use Rattle.model.specs.declared.Answer.{Answer}
 use Rattle.model.specs.declared.Listed.{Listed}

@@ -19,7 +19,8 @@ ghost use Rattle.model.specs.Order.{ordered, Closed};
 ghost use Rattle.model.specs.Graph.{lent};
 ghost use Rattle.model.specs.Tables.{Earliest};
 ghost use Rattle.model.specs.Limits as limit;
-ghost use Rattle.model.specs.Listing.{product, ListerAnswer};
+ghost use Rattle.model.specs.Listing.{ListerAnswer};
+ghost use Rattle.model.specs.Refusals.{product};
 ghost use Rattle.lister.specs.Search.{job, Sized, spans, Windows};
 ghost use Rattle.lister.specs.Asking.{askedOf, Matched, FrontAdmitted, BackAdmitted, Given, Sought};
 

@@ -11,7 +11,7 @@ use Rattle.model.specs.Graph.{Graph, many, lent}
 use Rattle.model.specs.Refusals.{First, shape}
 use Rattle.theory.specs.refusals.FirstRefusal.{first-none-append}
 use Rattle.theory.specs.refusals.SoundGraph.{shape-test-then, own-equal, sound}
-use Rattle.model.specs.Verdicts.{peakChecks}
+use Rattle.model.specs.Checks.{peakChecks}
 use Rattle.peak_use.specs.Peaking.{Countable}
 
 -- the graph's refusals with the test of the starts' number are peak use's, whose own row is the starts

@@ -9,7 +9,8 @@ use Rattle.model.specs.Refusals.{First}
 use Rattle.model.specs.Answers.{refusalOf}
 use Rattle.theory.specs.refusals.RefusalNumbers.{answer-one}
 use Rattle.theory.specs.unit_use.RunningAndPeak.{peak-one}
-use Rattle.model.specs.Verdicts.{PeakAnswer, peakChecks}
+use Rattle.model.specs.Verdicts.{PeakAnswer}
+use Rattle.model.specs.Checks.{peakChecks}
 use Rattle.theory.specs.unit_use.OneVerdict.{peak-answer-one, peak-ones}
 use Rattle.model.specs.declared.Answer.{Answer}
 use Rattle.model.specs.declared.Peaks.{Peaks}

@@ -8,7 +8,8 @@ ghost use Prim.Native.Nat.{ℕ, max};
 ghost use Rattle.model.specs.Graph.{lent};
 ghost use Rattle.model.specs.Refusals.{First};
 ghost use Rattle.model.specs.Answers.{refusalOf};
-ghost use Rattle.model.specs.Verdicts.{peakChecks, PeakAnswer};
+ghost use Rattle.model.specs.Verdicts.{PeakAnswer};
+ghost use Rattle.model.specs.Checks.{peakChecks};
 ghost use Rattle.peak_use.specs.Peaking.{Countable, AllPeaks};
 
 // The larger of two numbers.

@@ -10,7 +10,8 @@ use Rattle.model.specs.Limits as limit
 use Rattle.model.specs.Graph.{Graph, order, many, Sound}
 use Rattle.model.specs.Tables.{Latency}
 use Rattle.theory.specs.tables.LatestTurned.{latency-within, not-late}
-use Rattle.model.specs.Refusals.{Check, First, shape, output, cyclic, large-bound, late-bound, asapChecks, alapChecks}
+use Rattle.model.specs.Refusals.{Check, First, shape, output, cyclic, large-bound, late-bound}
+use Rattle.model.specs.Checks.{asapChecks, alapChecks}
 use Rattle.theory.specs.refusals.FirstRefusal.{first-none-append, first-pass, first-hit, first-says, first-silent, first-end, flat-says, flat-silent, Never, never-append, front-never}
 use Rattle.theory.specs.refusals.SoundGraph.{shape-own-then, room-enough, sound, closed}
 use Rattle.model.specs.Answers.{refusalOf, numbered, Answered}

@@ -12,7 +12,8 @@ use Rattle.model.specs.Graph.{Graph, order, many, Sound}
 use Rattle.model.specs.Tables.{Earliest, Latest, Asap, Alap, Mobility}
 use Rattle.theory.specs.tables.KeepingStarts.{earliest-same, latest-same}
 use Rattle.theory.specs.tables.LatestTurned.{asap-alap}
-use Rattle.model.specs.Refusals.{Check, asapChecks, alapChecks}
+use Rattle.model.specs.Refusals.{Check}
+use Rattle.model.specs.Checks.{asapChecks, alapChecks}
 use Rattle.theory.specs.refusals.SoundGraph.{closed}
 use Rattle.model.specs.Answers.{numbered, Answered, Fills, AsapAnswer, AlapAnswer, MobilityAnswer}
 use Rattle.theory.specs.refusals.RowAfterwards.{answered-again, row-is, row-given}

@@ -9,7 +9,7 @@ use Rattle.model.specs.Limits as limit
 use Rattle.model.specs.Order.{Order, size}
 use Rattle.model.specs.Graph.{Graph, order, Sound}
 use Rattle.model.specs.Tables.{Keeps, Within, Earliest, Latest}
-use Rattle.model.specs.Refusals.{asapChecks, alapChecks}
+use Rattle.model.specs.Checks.{asapChecks, alapChecks}
 use Rattle.model.specs.Answers.{Answered, refusalOf}
 use Rattle.model.specs.declared.Answer.{Answer}
 

@@ -10,8 +10,9 @@ use Rattle.model.specs.Order.{Closed, Cyclic}
 use Rattle.model.specs.Graph.{Graph, order, many}
 use Rattle.model.specs.Rule.{Labels, after, ListStarts, stepped, AllPlaced}
 use Rattle.model.specs.Limits as limit
-use Rattle.model.specs.Refusals.{First, Flat, shape, unitless, cyclic}
-use Rattle.model.specs.Scheduling.{Outside, advanceChecks, StateAfter, AdvanceAnswer}
+use Rattle.model.specs.Refusals.{First, Flat, shape, unitless, cyclic, Outside}
+use Rattle.model.specs.Scheduling.{StateAfter, AdvanceAnswer}
+use Rattle.model.specs.Checks.{advanceChecks}
 use Rattle.theory.specs.order.PlacingOutcome.{placing-exists}
 use Rattle.theory.specs.list.LabelValues.{AllOne, labels-placed, ones-closed, labels-one}
 use Rattle.theory.specs.list.Progress.{Doable}
