@@ -106,14 +106,14 @@ module _ (d t : List ℕ) (kinds : ℕ) (f o units : List ℕ) (bound : ℕ) {eq
     module _ {late : List ℕ} (k : LatestRow (order g) bound late) where
       -- so the windows are known
       pub ask-windows : (length d ≤ limit.operations) × Windows (b .starts) late (length d)
-      ask-windows = (sound .few, bound-windows g (closed g sound) bound (b .starts) (early .is) k)
+      ask-windows = (sound .few, bound-windows g (closed g sound) bound low (b .starts) (early .is) k)
 
       -- refused by the tenth
       pub ask-many : limit.windows < product (spans (b .starts) late (length d)) (length d)
           → ListerAnswer g units bound asked before (answers.Refused TooManyWindows) out
       ask-many above =
           admitted-late begun e (many-windows g bound) (Gives g units bound asked before (answers.Refused TooManyWindows)) (10, 0) (windows-quiet g bound)
-          (windows-many g (closed g sound) bound (b .starts) (early .is) k above)
+          (windows-many g (closed g sound) bound low (b .starts) (early .is) k above)
 
       few : (i : ℕ) → i < length d → at late i ≤ limit.steps
       few i l = omega (arith, k .is .within .ends i l, sound .delay-from i l, low)
@@ -133,7 +133,7 @@ module _ (d t : List ℕ) (kinds : ℕ) (f o units : List ℕ) (bound : ℕ) {eq
       ask-sought under {r} {after} s =
           subst (λ (x : Option (ℕ × ℕ)). Answered (listerChecks g units bound asked (length before)) before (Gives g units bound asked before r) x after) (sym (s .passes))
           (admitted-given begun e (many-windows g bound) (Gives g units bound asked before r)
-          (windows-few g (closed g sound) bound (b .starts) (early .is) k under)
+          (windows-few g (closed g sound) bound low (b .starts) (early .is) k under)
           (subst (λ (n : ℕ). Gives (lent d t n f o) units bound asked before r after) (m .counts yes)
           (subst (λ (x : List ℕ). Gives (lent d t (length units) f o) units bound asked x r after) (admitted-kept begun e)
           (s .gives bound (early .is) (k .is)))))

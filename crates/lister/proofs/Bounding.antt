@@ -17,11 +17,11 @@ use Rattle.theory.specs.refusals.FirstRefusal.{first-says, first-silent, first-
 use Rattle.tables.specs.LatestRow.{LatestRow}
 use Rattle.lister.specs.Search.{spans, Windows}
 
-module _ (g : Graph) (closed : Closed (order g)) (bound : ℕ) (early : List ℕ) (is-early : Earliest (order g) early) {late : List ℕ} (row : LatestRow (order g) bound late) where
+module _ (g : Graph) (closed : Closed (order g)) (bound : ℕ) (low : bound ≤ limit.steps) (early : List ℕ) (is-early : Earliest (order g) early) {late : List ℕ} (row : LatestRow (order g) bound late) where
   pub bound-windows : Windows early late (many g)
   bound-windows = record {
     ordered = asap-alap (order g) bound early late is-early (row .is);
-    few = λ i b. omega (arith, row .is .within .ends i b, closed .positive i b);
+    few = λ i b. omega (arith, row .is .within .ends i b, low, closed .positive i b);
   }
 
   entries : (s : List ℕ) (i : ℕ) → i < many g → at s i ≡ at (tabulate (at s) (many g)) i
