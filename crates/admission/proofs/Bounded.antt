@@ -14,13 +14,13 @@ use Rattle.theory.specs.tables.LatestTurned.{not-late}
 use Rattle.theory.specs.refusals.FirstRefusal.{first-silent, first-end, flat-says, flat-silent}
 use Rattle.theory.specs.refusals.RowAfterwards.{answered-says, answered-passed, row-given}
 use Rattle.admission.specs.Admitted.{boundChecks, StartsRow, Started, Admitted}
-use Rattle.admission.specs.AdmissionLaws.{refusedBy, Stays}
+use Rattle.admission.specs.AdmissionLaws.{refusedBy, Unchanged}
 
 -- above the last step
 pub bounded-large : {o : Order} {bound : ℕ} → limit.steps < bound → (out : List ℕ) → Admitted o (boundChecks o bound) out (refusedBy BoundTooLarge) out
 unfolding Started
 bounded-large {o} {bound} l out = record {
-  answered = answered-says _ (late-bound o bound) out (Stays out) 8 0 out (flat-says 8 _ l) refl;
+  answered = answered-says _ (late-bound o bound) out (Unchanged out) 8 0 out (flat-says 8 _ l) refl;
   started = refl;
 }
 
@@ -34,8 +34,8 @@ module _ {o : Order} {bound l : ℕ} {s : List ℕ} where
       → Admitted o (boundChecks o bound) out (refusedBy BoundTooSmall) out
   unfolding Started
   bounded-late row low ends below out = record {
-    answered = answered-passed (large-bound bound) (late-bound o bound) out (Stays out) (some (9, 0)) out (low-enough bound low)
-        (answered-says _ [] out (Stays out) 9 0 out
+    answered = answered-passed (large-bound bound) (late-bound o bound) out (Unchanged out) (some (9, 0)) out (low-enough bound low)
+        (answered-says _ [] out (Unchanged out) 9 0 out
         (flat-says 9 _ (record { asap = s; latency = l; earliest = row .is; ends = ends; below = below }))
         refl);
     started = refl;
@@ -46,10 +46,10 @@ module _ {o : Order} {bound l : ℕ} {s : List ℕ} where
       → Admitted o (boundChecks o bound) out (record { answer = Done; starts = s }) out
   unfolding Started
   bounded-done c row low ends up out = record {
-    answered = answered-passed (large-bound bound) (late-bound o bound) out (Stays out) none out (low-enough bound low)
+    answered = answered-passed (large-bound bound) (late-bound o bound) out (Unchanged out) none out (low-enough bound low)
         (record {
           first = first-silent _ _ none (flat-silent 9 _ (not-late o c s (row .is) l bound ends up)) first-end;
-          row = row-given (late-bound o bound) out (Stays out) out refl;
+          row = row-given (late-bound o bound) out (Unchanged out) out refl;
         });
     started = row;
   }

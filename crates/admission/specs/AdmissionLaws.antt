@@ -3,7 +3,7 @@ use mathlib.Core.Path.{_≡_, refl, sym, ap, subst, _∙_}
 use mathlib.Core.Bool.{Bool, true, false, true≢false}
 use mathlib.Core.Logic.{_⊎_, inl, inr, ⊎-elim}
 use mathlib.Core.Option.{Option, none, some}
-use mathlib.Core.List.{List, [], _∷_, _++_}
+use mathlib.Core.List.{List, _++_}
 use Prim.Native.Nat.{ℕ, _≤_, _<_}
 use native.Mathlib.Omega.{arith}
 use borrow.Author.Tests.{eqb-false, ne-eqb}
@@ -17,14 +17,14 @@ use Rattle.model.specs.Limits as limit
 use Rattle.model.specs.Order.{Order}
 use Rattle.model.specs.Graph.{Graph, order, many, Sound}
 use Rattle.model.specs.Tables.{Within}
-use Rattle.model.specs.Refusals.{Check, First, Late, shape, output, large-bound, late-bound}
+use Rattle.model.specs.Refusals.{Check, First, Late, shape, output}
 use Rattle.model.specs.Answers.{numbered, refusalOf, Fills, Answered}
 use Rattle.model.specs.declared.Answer.{Answer}
 use Rattle.model.specs.declared.Answer.the-variants.{Done, Refused}
 use Rattle.model.specs.declared.Refusal.{Refusal}
 use Rattle.theory.specs.refusals.FirstRefusal.{first-pass, first-none-append, flat-not}
 use Rattle.theory.specs.refusals.RefusalNumbers.{first-told}
-use Rattle.theory.specs.refusals.RowAfterwards.{Quiet, answered-refused, answered-passed, refused-stays, row-given, row-is}
+use Rattle.theory.specs.refusals.RowAfterwards.{WritesNothing, answered-refused, answered-passed, refused-stays, row-given, row-is}
 use Rattle.theory.specs.refusals.SoundGraph.{answered-own, shape-own-then, own-not, sound, room-enough}
 use Rattle.theory.specs.tables.SomeLatency.{not-late-within}
 use Rattle.admission.specs.declared.Begun.{Begun}
@@ -35,41 +35,41 @@ abbrev pub refusedBy : Refusal → Begun
 refusedBy why = record { answer = Refused why; starts = replicate limit.operations 0 }
 
 -- the output row stays
-abbrev pub Stays : List ℕ → List ℕ → Type 0
-Stays before after = after ≡ before
+abbrev pub Unchanged : List ℕ → List ℕ → Type 0
+Unchanged before after = after ≡ before
 
 -- ---- put together
 module _ {o : Order} (front back : List Check) {before : List ℕ} where
   -- refused by checks that write nothing: the row stays, whatever follows
-  pub admitted-stopped : {a : Answer} {why : Refusal} → Quiet front → First front (refusalOf a) → a ≡ Refused why
+  pub admitted-stopped : {a : Answer} {why : Refusal} → WritesNothing front → First front (refusalOf a) → a ≡ Refused why
       → Admitted o (front ++ back) before (refusedBy why) before
   unfolding Started
-  admitted-stopped {why = why} quiet h e = record {
-    answered = answered-refused front back before (Stays before) (Stays before) (numbered why) before
-        (refused-stays front before (Stays before) (numbered why) before quiet (first-told front e h) refl);
+  admitted-stopped {why = why} unwritten h e = record {
+    answered = answered-refused front back before (Unchanged before) (Unchanged before) (numbered why) before
+        (refused-stays front before (Unchanged before) (numbered why) before unwritten (first-told front e h) refl);
     started = refl;
   }
 
   -- the first checks passed, and the others decide
   pub admitted-passed : {b : Begun} {after : List ℕ} → First front none → Admitted o back before b after → Admitted o (front ++ back) before b after
   admitted-passed {b} {after} h k = record {
-    answered = answered-passed front back before (Stays before) (refusalOf (b .answer)) after h (k .answered);
+    answered = answered-passed front back before (Unchanged before) (refusalOf (b .answer)) after h (k .answered);
     started = k .started;
   }
 
 -- ---- what is known of one
 module _ {o : Order} {front : List Check} {before after : List ℕ} {b : Begun} (h : Admitted o front before b after) where
-  told : {a : Answer} → b .answer ≡ a → Answered front before (Stays before) (refusalOf a) after
-  told e = subst (λ (x : Answer). Answered front before (Stays before) (refusalOf x) after) e (h .answered)
+  told : {a : Answer} → b .answer ≡ a → Answered front before (Unchanged before) (refusalOf a) after
+  told e = subst (λ (x : Answer). Answered front before (Unchanged before) (refusalOf x) after) e (h .answered)
 
   -- refused: refused, whatever follows, and whatever an answer would have given
   pub admitted-refused : (back : List Check) (Given : List ℕ → Type 0) {why : Refusal} → b .answer ≡ Refused why
       → Answered (front ++ back) before Given (some (numbered why)) after
-  admitted-refused back Given {why} e = answered-refused front back before (Stays before) Given (numbered why) after (told e)
+  admitted-refused back Given {why} e = answered-refused front back before (Unchanged before) Given (numbered why) after (told e)
 
   pub admitted-handed : (back : List Check) {why : Refusal} → b .answer ≡ Refused why → Admitted o (front ++ back) before (refusedBy why) after
   unfolding Started
-  admitted-handed back e = record { answered = admitted-refused back (Stays before) e; started = refl }
+  admitted-handed back e = record { answered = admitted-refused back (Unchanged before) e; started = refl }
 
   module _ (e : b .answer ≡ Done) where
     -- passed: no check applies, the row stays, and the starts are the earliest
@@ -77,7 +77,7 @@ module _ {o : Order} {front : List Check} {before after : List ℕ} {b : Begun} 
     admitted-first = told e .first
 
     pub admitted-kept : after ≡ before
-    admitted-kept = row-is front before (Stays before) after (told e .row)
+    admitted-kept = row-is front before (Unchanged before) after (told e .row)
 
     pub admitted-starts : StartsRow o (b .starts)
     unfolding Started
@@ -90,10 +90,10 @@ module _ {o : Order} {front : List Check} {before after : List ℕ} {b : Begun} 
         (subst (λ (row : List ℕ). Admitted o back before d row) (sym admitted-kept) (k before))
 
     -- a later check that writes nothing refuses
-    pub admitted-late : (back : List Check) (Given : List ℕ → Type 0) (r : ℕ × ℕ) → Quiet back → First back (some r)
+    pub admitted-late : (back : List Check) (Given : List ℕ → Type 0) (r : ℕ × ℕ) → WritesNothing back → First back (some r)
         → Answered (front ++ back) before Given (some r) after
-    admitted-late back Given r quiet k =
-        answered-passed front back before Given (some r) after admitted-first (refused-stays back before Given r after quiet k admitted-kept)
+    admitted-late back Given r unwritten k =
+        answered-passed front back before Given (some r) after admitted-first (refused-stays back before Given r after unwritten k admitted-kept)
 
     -- none does, and an answer is given
     pub admitted-given : (back : List Check) (Given : List ℕ → Type 0) {row : List ℕ} → First back none → Given row
@@ -117,7 +117,7 @@ module _ {g : Graph} {matched : Bool} {Own : Type 0} (m : Matches matched Own) w
   pub admitted-matched : {rest : List Check} {before after : List ℕ} {b : Begun} → Admitted (order g) (shape g (matched ≡ false) ++ rest) before b after
       → Admitted (order g) (shape g Own ++ rest) before b after
   admitted-matched {rest} {before} {after} {b} h = record {
-    answered = answered-own g (matched ≡ false) Own (m .odd) (m .even) rest before (Stays before) (refusalOf (b .answer)) after (h .answered);
+    answered = answered-own g (matched ≡ false) Own (m .odd) (m .even) rest before (Unchanged before) (refusalOf (b .answer)) after (h .answered);
     started = h .started;
   }
 

@@ -20,7 +20,7 @@ use Rattle.theory.specs.refusals.CycleAndBounds.{cyclic-ones, large-bound-ones,
 use Rattle.theory.specs.tables.OneTable.{earliest-starts-one}
 use Rattle.admission.specs.Lowered.{Lowered}
 use Rattle.admission.specs.declared.Begun.{Begun}
-use Rattle.admission.specs.Admitted.{graphChecks, graphUnitChecks, placedChecks, placedUnitChecks, boundChecks, placedWithinChecks, placedUnitWithinChecks, StartsRow, Started, Admitted}
+use Rattle.admission.specs.Admitted.{graphChecks, graphUnitChecks, placedChecks, placedUnitChecks, boundChecks, placedWithinChecks, placedUnitWithinChecks, Started, Admitted}
 
 -- ---- without an output row
 -- of `graph`

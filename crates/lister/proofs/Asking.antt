@@ -1,7 +1,7 @@
 -- A question put together: what admission refuses, the windows, and then what the search found.
-use mathlib.Core.Path.{_≡_, refl, sym, ap, subst}
+use mathlib.Core.Path.{_≡_, refl, sym, subst}
 use mathlib.Core.Bool.{Bool, true, false}
-use mathlib.Core.Option.{Option, none, some}
+use mathlib.Core.Option.{Option, none}
 use mathlib.Core.List.{List}
 use Prim.Native.Nat.{ℕ, _≤_, _<_}
 use native.Mathlib.Omega.{arith}
@@ -23,7 +23,7 @@ use Rattle.model.specs.declared.Listed.{Listed}
 use Rattle.model.specs.declared.Listed.the-variants as answers
 use Rattle.theory.specs.refusals.FirstRefusal.{first-none-append}
 use Rattle.theory.specs.refusals.SoundGraph.{closed}
-use Rattle.theory.specs.refusals.RowAfterwards.{Quiet}
+use Rattle.theory.specs.refusals.RowAfterwards.{WritesNothing}
 use Rattle.admission.specs.declared.Begun.{Begun}
 use Rattle.admission.specs.Admitted.{placedUnitChecks, boundChecks, placedUnitWithinChecks, StartsRow, Admitted}
 use Rattle.admission.specs.AdmissionLaws.{admitted-matched, matches-both, matches-yes, admitted-refused, admitted-first, admitted-kept, admitted-starts, admitted-late, admitted-given, admitted-sound, admitted-room, passed-own, bound-low, bound-within}
@@ -54,9 +54,9 @@ module _ (g : Graph) (units : List ℕ) {matched : Bool} where
   }
 
 -- refusal 10 writes nothing
-windows-quiet : (g : Graph) (bound : ℕ) → Quiet (many-windows g bound)
-unfolding Quiet
-windows-quiet g bound = (λ r. refl, tt)
+windows-unwritten : (g : Graph) (bound : ℕ) → WritesNothing (many-windows g bound)
+unfolding WritesNothing
+windows-unwritten g bound = (λ r. refl, tt)
 
 -- ---- the question's parts
 module _ (d t : List ℕ) (kinds : ℕ) (f o units : List ℕ) (bound : ℕ) {equal matched : Bool} {row : List ℕ} (m : Matched (lent d t kinds f o) units equal row matched) {before out : List ℕ} {b : Begun} (h : Admitted (order (lent d t kinds f o)) (placedUnitWithinChecks (lent d t kinds f o) (matched ≡ false) (length before) units bound) before b out) where
@@ -112,7 +112,7 @@ module _ (d t : List ℕ) (kinds : ℕ) (f o units : List ℕ) (bound : ℕ) {eq
       pub ask-many : limit.windows < product (spans (b .starts) late (length d)) (length d)
           → ListerAnswer g units bound asked before (answers.Refused TooManyWindows) out
       ask-many above =
-          admitted-late begun e (many-windows g bound) (Gives g units bound asked before (answers.Refused TooManyWindows)) (10, 0) (windows-quiet g bound)
+          admitted-late begun e (many-windows g bound) (Gives g units bound asked before (answers.Refused TooManyWindows)) (10, 0) (windows-unwritten g bound)
           (windows-many g (closed g sound) bound low (b .starts) (early .is) k above)
 
       few : (i : ℕ) → i < length d → at late i ≤ limit.steps

@@ -6,7 +6,7 @@ use Prim.Native.Nat.{ℕ}
 use lib.ListN.{length}
 use denote.Ref.{now}
 use Rattle.model.specs.Graph.{Graph, order, many}
-use Rattle.model.specs.Refusals.{Check, CheckUneven, ListerUneven, shape, output, unitless, cyclic, large-bound, late-bound, many-windows, outside, no-channel, past-end}
+use Rattle.model.specs.Refusals.{Check, CheckUneven, ListerUneven, shape, output, unitless, cyclic, large-bound, late-bound, many-windows, outside, unnamed-channel, past-table}
 use Rattle.model.specs.Channels.{Table, chosen}
 
 -- ASAP: 1 to 5 and 7
@@ -46,4 +46,4 @@ advanceChecks g units t step = shape g (length units ≡ g .kinds → ⊥) ++ un
 
 -- the views: 12 and 13
 abbrev pub viewChecks : Table → Table → ℕ → ℕ → ℕ → List Check
-viewChecks a b channel first count = no-channel channel ++ past-end (length (now (chosen a b channel))) first count
+viewChecks a b channel first count = unnamed-channel channel ++ past-table (length (now (chosen a b channel))) first count

@@ -2,14 +2,14 @@
 use mathlib.Core.Path.{_≡_}
 use mathlib.Core.Logic.{_⊎_}
 use mathlib.Core.Option.{Option, none, some}
-use mathlib.Core.List.{List, [], _∷_, _++_}
+use mathlib.Core.List.{List, [], _∷_}
 use Prim.Native.Nat.{ℕ, zero, suc, _+_, _*_, _<_, _≤_}
 use lib.ListN.{length}
 use Rattle.maths.specs.Rows.{at}
 use Rattle.maths.specs.Lowest.{Lowest}
 use Rattle.model.specs.Limits as limit
 use Rattle.model.specs.Order.{Order}
-use Rattle.model.specs.Graph.{Graph, order, many, edgesOf, delay, typeOf}
+use Rattle.model.specs.Graph.{Graph, many, edgesOf, delay, typeOf}
 use Rattle.model.specs.Cycle.{Shown}
 use Rattle.model.specs.Tables.{Earliest, Latency, Mobility}
 
@@ -33,8 +33,8 @@ pub record Check : Type 1 where
   pub writes : Writes
 
 -- a check that writes nothing
-abbrev pub quiet : Says → Check
-quiet S = record { says = S; writes = Writes.nothing }
+abbrev pub unwritten : Says → Check
+unwritten S = record { says = S; writes = Writes.nothing }
 
 -- the first check that says something decides
 unfoldable pub First : List Check → Option (ℕ × ℕ) → Type 0
@@ -136,19 +136,19 @@ pub record NoChannel (channel : ℕ) : Type 0 where
 -- the table's first four rows
 abbrev pub shape : Graph → Type 0 → List Check
 shape g Own =
-    quiet (Flat 1 (Large g))
-    ∷ quiet (Flat 2 (Uneven g Own))
-    ∷ quiet (AtLowest 3 (many g) (BadOperation g))
-    ∷ quiet (AtLowest 4 (edgesOf g) (BadEdge g))
+    unwritten (Flat 1 (Large g))
+    ∷ unwritten (Flat 2 (Uneven g Own))
+    ∷ unwritten (AtLowest 3 (many g) (BadOperation g))
+    ∷ unwritten (AtLowest 4 (edgesOf g) (BadEdge g))
     ∷ []
 
 -- the fifth: `room` is the length of the output row
 abbrev pub output : Graph → ℕ → List Check
-output g room = quiet (Flat 5 (room < many g)) ∷ []
+output g room = unwritten (Flat 5 (room < many g)) ∷ []
 
 -- the sixth
 abbrev pub unitless : Graph → List ℕ → List Check
-unitless g units = quiet (AtLowest 6 (g .kinds) (NoUnit g units)) ∷ []
+unitless g units = unwritten (AtLowest 6 (g .kinds) (NoUnit g units)) ∷ []
 
 -- the seventh: it writes the cycle shown
 abbrev pub cyclic : Order → List Check
@@ -156,24 +156,24 @@ cyclic o = record { says = CycleOf o; writes = Writes.some-row (Shown o) } ∷ [
 
 -- the eighth
 abbrev pub large-bound : ℕ → List Check
-large-bound bound = quiet (Flat 8 (limit.steps < bound)) ∷ []
+large-bound bound = unwritten (Flat 8 (limit.steps < bound)) ∷ []
 
 -- the ninth
 abbrev pub late-bound : Order → ℕ → List Check
-late-bound o bound = quiet (Flat 9 (Late o bound)) ∷ []
+late-bound o bound = unwritten (Flat 9 (Late o bound)) ∷ []
 
 -- the tenth
 abbrev pub many-windows : Graph → ℕ → List Check
-many-windows g bound = quiet (Flat 10 (ManyWindows g bound)) ∷ []
+many-windows g bound = unwritten (Flat 10 (ManyWindows g bound)) ∷ []
 
 -- the eleventh
 abbrev pub outside : Graph → List ℕ → ℕ → List Check
-outside g t step = quiet (Flat 11 (Outside g t step)) ∷ []
+outside g t step = unwritten (Flat 11 (Outside g t step)) ∷ []
 
 -- the twelfth
-abbrev pub no-channel : ℕ → List Check
-no-channel channel = quiet (Flat 12 (NoChannel channel)) ∷ []
+abbrev pub unnamed-channel : ℕ → List Check
+unnamed-channel channel = unwritten (Flat 12 (NoChannel channel)) ∷ []
 
 -- the thirteenth: `entries` is the length of the chosen table
-abbrev pub past-end : ℕ → ℕ → ℕ → List Check
-past-end entries first count = quiet (Flat 13 (entries < first + count)) ∷ []
+abbrev pub past-table : ℕ → ℕ → ℕ → List Check
+past-table entries first count = unwritten (Flat 13 (entries < first + count)) ∷ []

@@ -1,6 +1,5 @@
 -- Views of the two channels' start tables: a part of the table asked for, that table's own memory and never the other's.
 use mathlib.Core.Path.{_≡_}
-use mathlib.Core.List.{List}
 use mathlib.Core.Option.{Option, none, some}
 use Prim.Native.Nat.{ℕ, _+_, _*_}
 use lib.ListN.{take, drop}

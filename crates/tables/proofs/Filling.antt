@@ -11,7 +11,6 @@ use Rattle.model.specs.Limits as limit
 use Rattle.model.specs.Order.{Closed}
 use Rattle.model.specs.Graph.{Graph, order, many, Sound}
 use Rattle.model.specs.Tables.{Earliest, Latest, Asap, Alap, Mobility}
-use Rattle.model.specs.Refusals.{First}
 use Rattle.model.specs.Checks.{alapChecks}
 use Rattle.model.specs.Answers.{numbered, Fills, Answered, AsapAnswer, AlapAnswer, MobilityAnswer}
 use Rattle.model.specs.declared.Answer.the-variants.{Done, Refused}

@@ -2,7 +2,6 @@
 use model::Answer;
 use model::limits::OPERATIONS;
 ghost use Prim.Native.Nat.{_≤_};
-ghost use lib.ListN.{length};
 ghost use Rattle.model.specs.Limits as limit;
 ghost use Rattle.model.specs.Order.{ordered, Closed};
 ghost use Rattle.model.specs.Graph.{lent};

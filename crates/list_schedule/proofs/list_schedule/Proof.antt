@@ -17,7 +17,7 @@ same-length : tie.Need-same-length
 same-length c = search needs
 
 returns : tie.Need-returns
-returns c = 
+returns c =
     let a = c .before .before .before .before .before .before .before .before .before .before .before .before .before .args in
     list-refused (a .delays .now) (a .types .now) (a .kinds) (a .from .now) (a .to .now) (a .units .now) (c .before .before .before .before .before .placed-with-units .ensures) _ (c .before .answer .given .1)
 
@@ -25,12 +25,12 @@ enum-told : tie.Need-enum-told
 enum-told c = search needs
 
 schedule-requires : tie.Need-schedule-requires
-schedule-requires c κs = 
+schedule-requires c κs =
     let a = c .before .before .before .before .before .before .before .before .before .before .before .before .args in
     list-can (a .delays .now) (a .types .now) (a .kinds) (a .from .now) (a .to .now) (a .units .now) (c .before .before .before .before .placed-with-units .ensures) (c .enum-told .given .1)
 
 fill-requires : tie.Need-fill-requires
-fill-requires c κs = 
+fill-requires c κs =
     let a = c .before .before .before .before .before .before .before .before .before .before .before .before .before .before .before .args in
     list-fits (a .delays .now) (a .types .now) (a .kinds) (a .from .now) (a .to .now) (a .units .now) (c .before .before .before .before .before .before .before .placed-with-units .ensures) (c .before .before .before .enum-told .given .1)
 
@@ -38,7 +38,7 @@ slice-aggregate-latency : tie.Need-slice-aggregate-latency
 slice-aggregate-latency c = sym (c .before .before .before .before .before .before .schedule .ensures .long)
 
 latency-requires : tie.Need-latency-requires
-latency-requires c κs = 
+latency-requires c κs =
     let a = c .before .before .before .before .before .before .before .before .before .before .before .before .before .before .before .before .before .before .before .args in
     omega (arith, c .before .before .before .before .before .before .schedule .ensures .long, list-fits (a .delays .now) (a .types .now) (a .kinds) (a .from .now) (a .to .now) (a .units .now) (c .before .before .before .before .before .before .before .before .before .before .before .placed-with-units .ensures) (c .before .before .before .before .before .before .before .enum-told .given .1) .0)
 
@@ -46,7 +46,7 @@ same-length-2 : tie.Need-same-length-2
 same-length-2 c = search needs
 
 returns-2 : tie.Need-returns-2
-returns-2 c = 
+returns-2 c =
     let a = c .before .before .before .before .before .before .before .before .before .before .before .before .before .before .before .before .before .before .before .before .args in
     list-given (a .delays .now) (a .types .now) (a .kinds) (a .from .now) (a .to .now) (a .units .now) (c .before .before .before .before .before .before .before .before .before .before .before .before .placed-with-units .ensures) (c .before .before .before .before .before .before .before .before .enum-told .given .1) (c .before .before .before .before .before .before .before .schedule .ensures) (c .latency .ensures _ _) (c .before .before .before .before .fill .ensures)
 

@@ -14,13 +14,13 @@ enum-told : tie.Need-enum-told
 enum-told c = search needs
 
 latest-requires : tie.Need-latest-requires
-latest-requires c κs = 
+latest-requires c κs =
     let a = c .before .before .before .before .before .before .before .before .before .before .before .before .before .before .args in
     let begun = c .before .before .before .before .before .placed-with-units-within .ensures in
     ask-latest (a .delays .now) (a .types .now) (a .kinds) (a .from .now) (a .to .now) (a .units .now) (a .bound) (c .before .before .before .before .before .before .before .before .before .before .before .before .before .before .pre) begun (c .enum-told .given .1)
 
 too-many-requires : tie.Need-too-many-requires
-too-many-requires c κs = 
+too-many-requires c κs =
     let a = c .before .before .before .before .before .before .before .before .before .before .before .before .before .before .before .before .before .args in
     let begun = c .before .before .before .before .before .before .before .before .placed-with-units-within .ensures in
     ask-windows (a .delays .now) (a .types .now) (a .kinds) (a .from .now) (a .to .now) (a .units .now) (a .bound) (c .before .before .before .before .before .before .before .before .before .before .before .before .before .before .before .before .before .pre) begun (c .before .before .before .enum-told .given .1) (c .before .before .latest .ensures)
@@ -29,13 +29,13 @@ same-length : tie.Need-same-length
 same-length c = search needs
 
 returns : tie.Need-returns
-returns c = 
+returns c =
     let a = c .before .before .before .before .before .before .before .before .before .before .before .before .before .before .before .before .before .before .before .args in
     let begun = c .before .before .before .before .before .before .before .before .before .before .placed-with-units-within .ensures in
     ask-many (a .delays .now) (a .types .now) (a .kinds) (a .from .now) (a .to .now) (a .units .now) (a .bound) (c .before .before .before .before .before .before .before .before .before .before .before .before .before .before .before .before .before .before .before .pre) begun (c .before .before .before .before .before .enum-told .given .1) (c .before .before .before .before .latest .ensures) (c .before .too-many .ensures .yes (c .if1 .taken))
 
 seek-requires : tie.Need-seek-requires
-seek-requires c κs = 
+seek-requires c κs =
     let a = c .before .before .before .before .before .before .before .before .before .before .before .before .before .before .before .before .before .before .before .before .before .before .args in
     let begun = c .before .before .before .before .before .before .before .before .before .before .before .before .before .placed-with-units-within .ensures in
     ask-sized (a .delays .now) (a .types .now) (a .kinds) (a .from .now) (a .to .now) (a .units .now) (a .bound) (c .before .before .before .before .before .before .before .before .before .before .before .before .before .before .before .before .before .before .before .before .before .before .pre) begun (c .before .before .before .before .before .before .before .before .enum-told .given .1) (c .before .before .before .before .before .before .before .latest .ensures)
@@ -44,7 +44,7 @@ same-length-2 : tie.Need-same-length-2
 same-length-2 c = search needs
 
 returns-2 : tie.Need-returns-2
-returns-2 c = 
+returns-2 c =
     let a = c .before .before .before .before .before .before .before .before .before .before .before .before .before .before .before .args in
     let begun = c .before .before .before .before .before .before .placed-with-units-within .ensures in
     ask-refused (a .delays .now) (a .types .now) (a .kinds) (a .from .now) (a .to .now) (a .units .now) (a .bound) (c .before .before .before .before .before .before .before .before .before .before .before .before .before .before .before .pre) begun (c .before .answer .given .1)
@@ -53,7 +53,7 @@ same-length-3 : tie.Need-same-length-3
 same-length-3 c = search needs
 
 returns-3 : tie.Need-returns-3
-returns-3 c = 
+returns-3 c =
     let a = c .before .before .before .before .before .before .before .before .before .before .before .before .before .before .before .before .before .before .before .before .before .before .before .before .before .args in
     let begun = c .before .before .before .before .before .before .before .before .before .before .before .before .before .before .before .before .placed-with-units-within .ensures in
     ask-sought (a .delays .now) (a .types .now) (a .kinds) (a .from .now) (a .to .now) (a .units .now) (a .bound) (c .before .before .before .before .before .before .before .before .before .before .before .before .before .before .before .before .before .before .before .before .before .before .before .before .before .pre) begun (c .before .before .before .before .before .before .before .before .before .before .before .enum-told .given .1) (c .before .before .before .before .before .before .before .before .before .before .latest .ensures) (c .before .before .before .before .before .before .before .too-many .ensures .none (c .before .before .before .before .before .before .if1 .left)) (c .before .before .seek .ensures)

@@ -29,7 +29,7 @@ returns c = record {
 
 returns-2 : tie.Need-returns-2
 unfolding Counts
-returns-2 c = 
+returns-2 c =
     let all = c .peaks .ensures _ _ _ in
     record {
       first = peak-told _ (c .before .before .before .before .before .before .before .before .before .args .starts .now) _ (first-told _ (c .before .enum-told .given .1) (c .before .before .before .graph .ensures));

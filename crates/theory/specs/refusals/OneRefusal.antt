@@ -6,7 +6,7 @@ use mathlib.Core.List.{List, [], _∷_, _++_}
 use Prim.Native.Nat.{ℕ, _<_}
 use Rattle.maths.specs.Lowest.{lowest-one}
 use Rattle.model.specs.Graph.{Graph, many, edgesOf}
-use Rattle.model.specs.Refusals.{Check, quiet, First, Flat, AtLowest, Large, Uneven, BadOperation, BadEdge, NoUnit, shape, output, unitless}
+use Rattle.model.specs.Refusals.{Check, unwritten, First, Flat, AtLowest, Large, Uneven, BadOperation, BadEdge, NoUnit, shape, output, unitless}
 use Rattle.model.specs.Answers.{Leaves}
 
 -- ---- one answer
@@ -38,14 +38,14 @@ first-one (R ∷ rest) o (some r) (some s) a b =
     a
 
 -- number and place are fixed
-pub flat-one : (number : ℕ) (P : Type 0) → One (quiet (Flat number P))
+pub flat-one : (number : ℕ) (P : Type 0) → One (unwritten (Flat number P))
 flat-one number P = record {
   same = λ n p m q a b. rw (a .is, a .nowhere, b .is, b .nowhere);
   once = λ before a b x y. x ∙ sym y;
 }
 
 -- the number is fixed, and there is one lowest place at most
-pub at-lowest-one : (number among : ℕ) (P : ℕ → Type 0) → One (quiet (AtLowest number among P))
+pub at-lowest-one : (number among : ℕ) (P : ℕ → Type 0) → One (unwritten (AtLowest number among P))
 at-lowest-one number among P = record {
   same = λ n p m q a b. rw (a .is, b .is, lowest-one P among p q (a .lowest) (b .lowest));
   once = λ before a b x y. x ∙ sym y;

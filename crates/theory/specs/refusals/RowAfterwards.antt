@@ -57,24 +57,24 @@ left-pass [] back r before after a b = b
 left-pass (R ∷ front) back r before after a b = inr (a .0, left-pass front back r before after (a .1) b)
 
 -- none of the checks writes anything
-unfoldable pub Quiet : List Check → Type 0
-Quiet [] = Unit {0}
-Quiet (R ∷ rest) = ((row : List ℕ) → Leaves (R .writes) row row) × Quiet rest
+unfoldable pub WritesNothing : List Check → Type 0
+WritesNothing [] = Unit {0}
+WritesNothing (R ∷ rest) = ((row : List ℕ) → Leaves (R .writes) row row) × WritesNothing rest
 
 -- so the row stays, whichever of them is given
-left-quiet : (checks : List Check) → Quiet checks → (r : ℕ × ℕ) (row : List ℕ) → First checks (some r) → LeftBy checks r row row
-unfolding First LeftBy Quiet
-left-quiet [] q r row h = absurd h
-left-quiet (R ∷ rest) q r row h = ⊎-elim (λ k. inl (k, q .0 row)) (λ k. inr (k .0, left-quiet rest (q .1) r row (k .1))) h
+left-unwritten : (checks : List Check) → WritesNothing checks → (r : ℕ × ℕ) (row : List ℕ) → First checks (some r) → LeftBy checks r row row
+unfolding First LeftBy WritesNothing
+left-unwritten [] q r row h = absurd h
+left-unwritten (R ∷ rest) q r row h = ⊎-elim (λ k. inl (k, q .0 row)) (λ k. inr (k .0, left-unwritten rest (q .1) r row (k .1))) h
 
 -- the first six write nothing
-pub front-quiet : (g : Graph) (Own : Type 0) (room : ℕ) → Quiet (shape g Own ++ output g room)
-unfolding Quiet
-front-quiet g Own room = (λ r. refl, (λ r. refl, (λ r. refl, (λ r. refl, (λ r. refl, tt)))))
+pub front-unwritten : (g : Graph) (Own : Type 0) (room : ℕ) → WritesNothing (shape g Own ++ output g room)
+unfolding WritesNothing
+front-unwritten g Own room = (λ r. refl, (λ r. refl, (λ r. refl, (λ r. refl, (λ r. refl, tt)))))
 
-pub front-unit-quiet : (g : Graph) (Own : Type 0) (room : ℕ) (units : List ℕ) → Quiet (shape g Own ++ output g room ++ unitless g units)
-unfolding Quiet
-front-unit-quiet g Own room units = (λ r. refl, (λ r. refl, (λ r. refl, (λ r. refl, (λ r. refl, (λ r. refl, tt))))))
+pub front-unit-unwritten : (g : Graph) (Own : Type 0) (room : ℕ) (units : List ℕ) → WritesNothing (shape g Own ++ output g room ++ unitless g units)
+unfolding WritesNothing
+front-unit-unwritten g Own room units = (λ r. refl, (λ r. refl, (λ r. refl, (λ r. refl, (λ r. refl, (λ r. refl, tt))))))
 
 -- ---- put together
 pub row-given : (checks : List Check) (before : List ℕ) (Given : List ℕ → Type 0) (after : List ℕ) → Given after → RowAfter checks before Given none after
@@ -108,11 +108,11 @@ answered-again checks before Given Other r after h = record { first = h .first; 
 
 -- refused by checks that write nothing: the row stays
 pub refused-stays : (checks : List Check) (before : List ℕ) (Given : List ℕ → Type 0) (r : ℕ × ℕ) (after : List ℕ)
-    → Quiet checks → First checks (some r) → after ≡ before → Answered checks before Given (some r) after
+    → WritesNothing checks → First checks (some r) → after ≡ before → Answered checks before Given (some r) after
 unfolding RowAfter
 refused-stays checks before Given r after q h e = record {
   first = h;
-  row = subst (λ (row : List ℕ). LeftBy checks r before row) (sym e) (left-quiet checks q r before h);
+  row = subst (λ (row : List ℕ). LeftBy checks r before row) (sym e) (left-unwritten checks q r before h);
 }
 
 -- what is said once the first checks have passed

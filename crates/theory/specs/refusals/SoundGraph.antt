@@ -132,9 +132,9 @@ left-own g P Q there back rest r before after h =
     inr (
       k .0,
       ⊎-elim
-      (λ m. inl (flat-same (uneven-own g there) _ _ (m .0), m .1))
-      (λ m. inr (λ n p s. m .0 n p (flat-same (uneven-own g back) n p s), m .1))
-      (k .1),
+          (λ m. inl (flat-same (uneven-own g there) _ _ (m .0), m .1))
+          (λ m. inr (λ n p s. m .0 n p (flat-same (uneven-own g back) n p s), m .1))
+          (k .1),
     ))
     h
 

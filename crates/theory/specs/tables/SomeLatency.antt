@@ -3,7 +3,7 @@ use mathlib.Core.Logic.{⊎-elim}
 use mathlib.Core.List.{List}
 use Prim.Native.Nat.{ℕ, zero, suc, _+_, _-_, _≤_, _<_}
 use native.Mathlib.Omega.{arith}
-use borrow.Author.Count.{below-none, below-more}
+use borrow.Author.Count.{below-more}
 use Rattle.maths.specs.Cases.{at-most, le-or-lt}
 use Rattle.maths.specs.Rows.{at}
 use Rattle.model.specs.Order.{Order, size, weight}

@@ -1,6 +1,5 @@
 -- `within` meets its contract: refusal 8 by the bound alone, 9 by the latency of the earliest starts.
 use borrow.Author.Needs.{needs}
-use mathlib.Core.Path.{sym}
 use native.Mathlib.Omega.{arith}
 use Rattle.admission.proofs.Bounded.{bounded-large, bounded-late, bounded-done}
 use Rattle.admission.proofs.bounds.within.Statement.{statement}

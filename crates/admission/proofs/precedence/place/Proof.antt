@@ -12,7 +12,7 @@ returns : tie.Need-returns
 returns c = tried-done (c .before .before .before .before .before .before .before .pre .0) (c .before .earliest .ensures) _ (c .if1 .taken)
 
 show-requires : tie.Need-show-requires
-show-requires c κs = 
+show-requires c κs =
     let placing = c .before .before .before .earliest .ensures in
     (c .before .before .before .before .before .before .before .before .before .pre .0, (kept-at (c .before .before .before .before .before .before .before .before .before .pre .0) placing, (placing-cyclic (c .before .before .before .before .before .before .before .before .before .pre .0) placing (c .before .before .if1 .left), c .before .before .before .before .before .before .before .before .before .pre .1)))
 

@@ -18,7 +18,7 @@ unmoved-requires : tie.Need-unmoved-requires
 unmoved-requires c κs = search needs
 
 returns : tie.Need-returns
-returns c = 
+returns c =
     let h = advance-units _ (c .before .before .before .before .before .before .before .before .before .before .args .units .now) _ (first-told _ (c .before .before .fault .given .1) (c .before .before .before .before .graph-with-units .ensures)) in
     unmoved (c .unmoved .ensures) (advance-refused _ _ _ _ _ h)
 
@@ -26,7 +26,7 @@ enum-told : tie.Need-enum-told
 enum-told c = search needs
 
 full-requires : tie.Need-full-requires
-full-requires c κs = 
+full-requires c κs =
     let a = c .before .before .before .before .before .before .before .before .before .before .args in
     let h = advance-units _ (c .before .before .before .before .before .before .before .before .before .before .args .units .now) _ (first-told _ (c .before .before .enum-told .given .1) (c .before .before .before .before .graph-with-units .ensures)) in
     advance-can (a .delays .now) (a .types .now) (a .kinds) (a .from .now) (a .to .now) (a .units .now) h .sound .few
@@ -35,7 +35,7 @@ unmoved-requires-2 : tie.Need-unmoved-requires-2
 unmoved-requires-2 c κs = search needs
 
 returns-2 : tie.Need-returns-2
-returns-2 c = 
+returns-2 c =
     let h = advance-units _ (c .before .before .before .before .before .before .before .before .before .before .before .before .before .args .units .now) _ (first-told _ (c .before .before .before .before .before .enum-told .given .1) (c .before .before .before .before .before .before .before .graph-with-units .ensures)) in
     unmoved (c .unmoved2 .ensures) (advance-whole _ _ _ _ h (c .before .before .full .ensures .yes (c .before .if1 .taken)))
 
@@ -43,7 +43,7 @@ unmoved-requires-3 : tie.Need-unmoved-requires-3
 unmoved-requires-3 c κs = search needs
 
 returns-3 : tie.Need-returns-3
-returns-3 c = 
+returns-3 c =
     let h = advance-units _ (c .before .before .before .before .before .before .before .before .before .before .before .before .before .before .args .units .now) _ (first-told _ (c .before .before .before .before .before .before .enum-told .given .1) (c .before .before .before .before .before .before .before .before .graph-with-units .ensures)) in
     unmoved (c .unmoved3 .ensures) (advance-outside _ _ _ _ h (c .before .before .before .full .ensures .none (c .before .before .if1 .left)) (inl (c .before .if2 .taken)))
 
@@ -51,12 +51,12 @@ unmoved-requires-4 : tie.Need-unmoved-requires-4
 unmoved-requires-4 c κs = search needs
 
 returns-4 : tie.Need-returns-4
-returns-4 c = 
+returns-4 c =
     let h = advance-units _ (c .before .before .before .before .before .before .before .before .before .before .before .before .before .before .before .args .units .now) _ (first-told _ (c .before .before .before .before .before .before .before .enum-told .given .1) (c .before .before .before .before .before .before .before .before .before .graph-with-units .ensures)) in
     unmoved (c .unmoved4 .ensures) (advance-outside _ _ _ _ h (c .before .before .before .before .full .ensures .none (c .before .before .before .if1 .left)) (inr (c .before .if3 .taken)))
 
 next-starts-requires : tie.Need-next-starts-requires
-next-starts-requires c κs = 
+next-starts-requires c κs =
     let a = c .before .before .before .before .before .before .before .before .before .before .before .before .before .before .args in
     let h = advance-units _ (c .before .before .before .before .before .before .before .before .before .before .before .before .before .before .args .units .now) _ (first-told _ (c .before .before .before .before .before .before .enum-told .given .1) (c .before .before .before .before .before .before .before .before .graph-with-units .ensures)) in
     (advance-can (a .delays .now) (a .types .now) (a .kinds) (a .from .now) (a .to .now) (a .units .now) h, (omega arith, omega arith))
@@ -65,7 +65,7 @@ add-t14 : tie.Need-add-t14
 add-t14 c = omega arith
 
 returns-5 : tie.Need-returns-5
-returns-5 c = 
+returns-5 c =
     let a = c .before .before .before .before .before .before .before .before .before .before .before .before .before .before .before .args in
     let h = advance-units _ (c .before .before .before .before .before .before .before .before .before .before .before .before .before .before .before .args .units .now) _ (first-told _ (c .before .before .before .before .before .before .before .enum-told .given .1) (c .before .before .before .before .before .before .before .before .before .graph-with-units .ensures)) in
     advance-moves _ _ _ _ h (c .before .before .before .before .full .ensures .none (c .before .before .before .if1 .left)) (omega arith) (omega arith) _ (moves-given (a .delays .now) (a .types .now) (a .kinds) (a .from .now) (a .to .now) (a .units .now) (advance-even (a .delays .now) (a .types .now) (a .kinds) (a .from .now) (a .to .now) (a .units .now) h) _ _ _ _ (c .next-starts .ensures))
