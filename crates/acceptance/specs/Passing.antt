@@ -2,7 +2,7 @@
 use mathlib.Core.Path.{_≡_, subst}
 use mathlib.Core.Bool.{Bool, true}
 use mathlib.Core.Option.{Option, none, some}
-use mathlib.Core.List.{List, [], _∷_}
+use mathlib.Core.List.{List}
 use Prim.Native.Nat.{ℕ, _≤_, _<_}
 use native.Mathlib.Omega.{arith}
 use lib.Dec.{leb, ltb, eqb}
@@ -18,10 +18,10 @@ use Rattle.model.specs.Tables.{Keeps, Within, Mobility}
 use Rattle.theory.specs.tables.KeepingStarts.{keeps-acyclic}
 use Rattle.theory.specs.tables.OneTable.{mobility-one}
 use Rattle.theory.specs.cycle.SomeShown.{shown-cyclic}
-use Rattle.model.specs.Refusals.{Check, First, Flat, Late, shape, output, unitless, cyclic, large-bound, late-bound}
+use Rattle.model.specs.Refusals.{First, Late, shape, output, unitless, cyclic, large-bound, late-bound, many-windows, product, ManyWindows, ListerUneven}
 use Rattle.theory.specs.refusals.FirstRefusal.{first-pass, first-says, first-silent, first-end, flat-says, flat-silent, at-lowest-silent}
 use Rattle.theory.specs.refusals.SoundGraph.{not-large, not-uneven, good-operation, good-edge, shape-silent, closed}
-use Rattle.model.specs.Listing.{product, ManyWindows, ListerUneven, listerChecks}
+use Rattle.model.specs.Checks.{listerChecks}
 
 -- within the limits, rows that match, and every entry in its range: `Sound`, as a test
 unfoldable pub isSound : Graph → Bool
@@ -101,13 +101,9 @@ late-passes o bound t k w = first-silent _ _ none (flat-silent 9 _ late) first-e
         record { ends = λ i l. omega (arith, h .earliest .least t k i l, w .ends i l) } in
         omega (arith, h .below, h .ends .least bound within)
 
--- the tenth, alone
-abbrev pub windowsCheck : Graph → ℕ → List Check
-windowsCheck g bound = Flat 10 (ManyWindows g bound) ∷ []
-
 module _ (g : Graph) (bound : ℕ) (m : List ℕ) (is : Mobility g bound m) where
   -- the product of the windows is within the limit
-  pub windows-pass : product m (many g) ≤ limit.windows → First (windowsCheck g bound) none
+  pub windows-pass : product m (many g) ≤ limit.windows → First (many-windows g bound) none
   windows-pass low = first-silent _ _ none (flat-silent 10 _ (λ h. omega (arith, above h))) first-end
     where
       above : ManyWindows g bound → limit.windows < product m (many g)
@@ -115,13 +111,13 @@ module _ (g : Graph) (bound : ℕ) (m : List ℕ) (is : Mobility g bound m) wher
           subst (λ (row : List ℕ). limit.windows < product row (many g)) (mobility-one g bound (h .mobility) m (h .is) is) (h .above)
 
   -- or past it
-  pub windows-refuse : limit.windows < product m (many g) → First (windowsCheck g bound) (some (10, 0))
+  pub windows-refuse : limit.windows < product m (many g) → First (many-windows g bound) (some (10, 0))
   windows-refuse high = first-says _ _ 10 0 (flat-says 10 _ (record { mobility = m; is = is; above = high }))
 
   -- where there are latest starts within the bound, and nothing else is amiss, the tenth decides
   module _ (sound : Sound g) (low : bound ≤ limit.steps) (units : List ℕ) (manned : every (λ k. leb 1 (at units k)) (g .kinds) ≡ true) where
     pub tenth-decides : (asked : Option (List ℕ)) → (ListerUneven g units asked → ⊥) → (room : ℕ) → many g ≤ room → (x : Option (ℕ × ℕ))
-        → First (windowsCheck g bound) x → First (listerChecks g units bound asked room) x
+        → First (many-windows g bound) x → First (listerChecks g units bound asked room) x
     tenth-decides asked even room enough x decides =
         let late = is .is-alap .latest in
         first-pass _ _ x

@@ -17,7 +17,8 @@ use Rattle.model.specs.Verdicts.{Checked, PeakAnswer}
 use Rattle.theory.specs.unit_use.OneVerdict.{checked-one, peak-answer-one}
 use Rattle.model.specs.Listing.{ListerAnswer}
 use Rattle.theory.specs.lister.OneListerAnswer.{lister-answer-one}
-use Rattle.model.specs.Views.{Table, PartOf, Viewed, ViewRefusal}
+use Rattle.model.specs.Views.{PartOf, Viewed, ViewRefusal}
+use Rattle.model.specs.Channels.{Table}
 use Rattle.theory.specs.views.OneView.{Available, passes, view-refusal-one}
 use Rattle.theorems.specs.Views.{view-long, not-the-other}
 use Rattle.model.specs.declared.Refusal.{Refusal}

@@ -11,7 +11,8 @@ use Rattle.model.specs.Graph.{Graph, lent, many}
 use Rattle.model.specs.Refusals.{First}
 use Rattle.model.specs.Answers.{AsapAnswer}
 use Rattle.model.specs.Verdicts.{Checked}
-use Rattle.model.specs.Listing.{allLawful, listerChecks}
+use Rattle.model.specs.Listing.{allLawful}
+use Rattle.model.specs.Checks.{listerChecks}
 use Rattle.model.specs.declared.Refusal.the-variants as refusals
 use Rattle.model.specs.declared.Answer.the-variants as answers
 use Rattle.model.specs.declared.Finding.{Finding}

@@ -19,16 +19,17 @@ use Rattle.model.specs.Graph.{Graph, order, many, edgesOf, Sound}
 use Rattle.model.specs.Cycle.{Shown}
 use Rattle.model.specs.Tables.{Mobility, Asap}
 use Rattle.model.specs.Use.{runs}
-use Rattle.model.specs.Refusals.{First, CycleOf, shape, output, unitless, cyclic, large-bound}
-use Rattle.theory.specs.refusals.FirstRefusal.{first-pass, first-says}
+use Rattle.model.specs.Refusals.{First, shape, output, unitless, cyclic, large-bound, CheckUneven, product, ListerUneven}
+use Rattle.theory.specs.refusals.FirstRefusal.{first-pass}
 use Rattle.theory.specs.refusals.SoundGraph.{closed}
 use Rattle.model.specs.Answers.{Fills}
-use Rattle.theory.specs.refusals.RowAfterwards.{row-cycle}
+use Rattle.theory.specs.refusals.RowAfterwards.{answered-says, answered-passed}
 use Rattle.model.specs.Faults as fault
-use Rattle.model.specs.Verdicts.{CheckUneven, checkChecks, Finds}
+use Rattle.model.specs.Verdicts.{Finds}
 use Rattle.theorems.specs.AllListed.{is-lawful}
 use Rattle.theory.specs.unit_use.OneVerdict.{timely-operation}
-use Rattle.model.specs.Listing.{isLawful, product, ListerUneven}
+use Rattle.model.specs.Listing.{isLawful}
+use Rattle.model.specs.Checks.{checkChecks}
 use Rattle.acceptance.specs.Passing.{isSound, is-sound, shape-passes, output-passes, units-pass, cyclic-passes, large-passes, windows-pass, windows-refuse, tenth-decides}
 use Rattle.acceptance.specs.Free.{plainGraph, twoStarts, free-mobility, empty-mobility, row-of-two, row-mobility, below-one, below-two}
 use Rattle.acceptance.specs.Circles.{ring, ring-shown, tail, tail-shown}
@@ -38,12 +39,12 @@ use Rattle.acceptance.specs.Starred.{Case, cycle, listing, slow, single,
 -- a sound graph with this cycle shown is refused so
 cycle-holds : (g : Graph) (c : List ℕ) → Sound g → Shown (order g) c → Holds (cycle g c)
 unfolding Holds
-cycle-holds g c sound shown out room = record {
-  first = first-pass (shape g ⊥ ++ output g (length out)) (cyclic (order g)) _
-      (first-pass (shape g ⊥) (output g (length out)) none (shape-passes g ⊥ sound (λ x. x)) (output-passes g (length out) room))
-      (first-says (CycleOf (order g)) [] 7 (length c) (record { is = refl; cycle = c; shown = shown; long = refl }));
-  row = row-cycle (order g) out (Fills (Asap g) out) (length c) (over c out) (record { cycle = c; shown = shown; written = refl });
-}
+cycle-holds g c sound shown out room =
+    answered-passed (shape g ⊥ ++ output g (length out)) (cyclic (order g)) out (Fills (Asap g) out) (some (7, length c)) (over c out)
+    (first-pass (shape g ⊥) (output g (length out)) none (shape-passes g ⊥ sound (λ x. x)) (output-passes g (length out) room))
+    (answered-says _ [] out (Fills (Asap g) out) 7 (length c) (over c out)
+    (record { is = refl; cycle = c; shown = shown; long = refl })
+    (record { row = c; is = shown; written = refl }))
 
 -- one row of units for one type is of the right length
 even-first : (g : Graph) → g .kinds ≡ 1 → (u : ℕ) → ListerUneven g (u ∷ []) none → ⊥

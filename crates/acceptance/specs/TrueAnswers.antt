@@ -17,7 +17,7 @@ use Rattle.model.specs.Graph.{Graph, order, Sound}
 use Rattle.model.specs.Tables.{Latency}
 use Rattle.model.specs.Use.{runs, running, Peak}
 use Rattle.theory.specs.unit_use.RunningAndPeak.{running-le, running-none}
-use Rattle.model.specs.Refusals.{First, shape, output, unitless, cyclic, large-bound, late-bound, asapChecks, alapChecks}
+use Rattle.model.specs.Refusals.{First, shape, output, unitless, cyclic, large-bound, late-bound, product, ListerUneven}
 use Rattle.theory.specs.refusals.FirstRefusal.{first-pass, first-silent, first-end, flat-silent}
 use Rattle.theory.specs.refusals.SoundGraph.{closed}
 use Rattle.model.specs.Answers.{RowAfter, AsapAnswer, AlapAnswer, MobilityAnswer}
@@ -25,7 +25,8 @@ use Rattle.model.specs.Verdicts.{Counts, PeakAnswer}
 use Rattle.model.specs.Order.{weight}
 use Rattle.model.specs.Rule.{Chain, Label, Labels, labelOrder, finished, blocks, candidate, ahead, startsNow, stepped, after, ListStarts}
 use Rattle.model.specs.Scheduling.{ListAnswer, StateAfter, AdvanceAnswer}
-use Rattle.model.specs.Listing.{isLawful, product, Least, NoneLeft, ListerUneven, listerChecks, Gives, ListerAnswer, Asked, AskedAll}
+use Rattle.model.specs.Listing.{isLawful, Least, NoneLeft, Gives, ListerAnswer, Asked, AskedAll}
+use Rattle.model.specs.Checks.{asapChecks, alapChecks, listerChecks}
 use Rattle.theorems.specs.AllListed.{asked-all, Gets, next-gets}
 use Rattle.model.specs.declared.Answer.the-variants as answers
 use Rattle.model.specs.declared.Scheduled.the-variants as scheduled

@@ -1,4 +1,5 @@
 -- Laws for the proofs of this crate.
+mod Bounded
 mod Filled
 mod Manned
 mod Trying

@@ -1,3 +1,4 @@
 pub mod Lowered
-pub mod OrderAdmitted
+pub mod Admitted
+pub mod AdmissionLaws
 pub mod OneAnswer

@@ -6,7 +6,8 @@ use Rattle.model.specs.Graph.{Graph}
 use Rattle.model.specs.Refusals.{First}
 use Rattle.model.specs.Answers.{refusalOf}
 use Rattle.theory.specs.refusals.RefusalNumbers.{answer-one}
-use Rattle.model.specs.Verdicts.{Checked, checkChecks}
+use Rattle.model.specs.Verdicts.{Checked}
+use Rattle.model.specs.Checks.{checkChecks}
 use Rattle.theory.specs.unit_use.OneVerdict.{checked-one, check-ones, finds-one}
 use Rattle.model.specs.declared.Answer.{Answer}
 use Rattle.model.specs.declared.Finding.{Finding}

@@ -1,11 +1,9 @@
 // Unit use: the schedule checker.
 use model::Answer;
 use model::Finding;
-use model::Refusal;
 use model::Verdict;
 use model::limits::CELLS;
 use model::limits::KINDS;
-use model::limits::STEPS;
 ghost use mathlib.Core.Path.{_≡_};
 ghost use mathlib.Core.List.{List};
 ghost use Prim.Native.Nat.{ℕ, _+_, _≤_, _<_};
@@ -13,11 +11,12 @@ ghost use lib.ListN.{length};
 ghost use Rattle.maths.specs.Cases.{Tells};
 ghost use Rattle.model.specs.Limits as limit;
 ghost use Rattle.model.specs.Order.{ordered, Closed};
-ghost use Rattle.model.specs.Graph.{graphOf, lent, BusySound};
-ghost use Rattle.model.specs.Refusals.{First, large-bound};
+ghost use Rattle.model.specs.Graph.{BusySound, graphOf, lent};
+ghost use Rattle.model.specs.Refusals.{First};
 ghost use Rattle.model.specs.Answers.{refusalOf};
 ghost use Rattle.model.specs.Faults as fault;
-ghost use Rattle.model.specs.Verdicts.{checkChecks, Checked};
+ghost use Rattle.model.specs.Verdicts.{Checked};
+ghost use Rattle.model.specs.Checks.{checkChecks};
 ghost use Rattle.maths.specs.Search.{LowestOr};
 ghost use Rattle.checker.specs.Tally.{Markable, Marked, Reads};
 ghost use Rattle.checker.specs.Findings.{Tallyable, Overs, Askable, Settled};
@@ -147,16 +146,6 @@ fn judge(
     over_use(busy, types, units, bound, starts)
 }
 
-// Refusal 8: the bound is past the last step.
-fn bound_fault(bound: usize) -> Answer
-    ensures { λ r. ⌜ First (large-bound bound) (refusalOf r) ⌝ }
-{
-    if STEPS < bound {
-        return Answer::Refused(Refusal::BoundTooLarge);
-    }
-    Answer::Done
-}
-
 // The checker's refusals: 1 to 4, 6, 7 and 8.
 fn check_fault(
     delays: &[u8],
@@ -170,16 +159,12 @@ fn check_fault(
 ) -> Answer
     ensures { λ r. ⌜ First (checkChecks (lent (now (delays .entry)) (now (types .entry)) kinds (now (from .entry)) (now (to .entry))) (now (units .entry)) bound (now (starts .entry))) (refusalOf r) ⌝ }
 {
-    let even = admission::graph::rows_match(units.len(), kinds, starts.len(), delays.len());
-    let fault = admission::graph::graph_unit_fault(delays, types, kinds, from, to, units, even);
-    if let Answer::Refused(why) = fault {
-        return Answer::Refused(why);
+    let even = admission::rows::rows_match(units.len(), kinds, starts.len(), delays.len());
+    let fault = admission::graph_with_units(delays, types, kinds, from, to, units, even);
+    match fault {
+        Answer::Refused(why) => Answer::Refused(why),
+        Answer::Done => admission::bound_fault(bound),
     }
-    let cycle = admission::precedence::cycle_fault(delays, from, to);
-    if let Answer::Refused(why) = cycle {
-        return Answer::Refused(why);
-    }
-    bound_fault(bound)
 }
 
 // Whether a schedule is lawful for the graph, the unit counts and the bound; if not, its first fault.

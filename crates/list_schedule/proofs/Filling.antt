@@ -7,7 +7,7 @@ use Prim.Native.Nat.{ℕ, _+_, _≤_, _<_}
 use native.Mathlib.Omega.{arith}
 use Rattle.maths.specs.Cases.{Tells, tells-yes, tells-no, same-or-not}
 use Rattle.maths.specs.Rows.{at}
-use Rattle.list_schedule.specs.Fronts.{Full}
+use Rattle.list_schedule.specs.WholeSchedule.{Full}
 
 module _ {starts : List ℕ} where
   pub full-none : Full 0 starts

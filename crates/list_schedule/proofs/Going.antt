@@ -19,7 +19,7 @@ use Rattle.theory.specs.list.Progress.{Doable}
 use Rattle.theory.specs.list.OneListSchedule.{stepped-same, after-stable, all-placed}
 use Rattle.model.specs.Scheduling.{Moves}
 use Rattle.list_step.specs.Priority.{Priority}
-use Rattle.list_schedule.specs.Fronts.{Full, ListRow}
+use Rattle.list_schedule.specs.WholeSchedule.{Full, ListRow}
 
 -- the starts before a step
 pub record Going (g : Graph) (units t : List ℕ) (step : ℕ) : Type 0 where

@@ -1,4 +1,3 @@
-mod Checked
 mod Filling
 mod Going
 mod Answering

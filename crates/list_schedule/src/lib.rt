@@ -10,11 +10,10 @@ ghost use lib.ListN.{length};
 ghost use Rattle.maths.specs.Cases.{Tells};
 ghost use Rattle.model.specs.Limits as limit;
 ghost use Rattle.model.specs.Graph.{lent};
-ghost use Rattle.model.specs.Refusals.{First};
 ghost use Rattle.model.specs.Answers.{refusalOf};
 ghost use Rattle.theory.specs.list.Progress.{Doable};
 ghost use Rattle.model.specs.Scheduling.{Moves, ListAnswer, AdvanceAnswer};
-ghost use Rattle.list_schedule.specs.Fronts.{advanceFront, listFront, Full, ListRow};
+ghost use Rattle.list_schedule.specs.WholeSchedule.{Full, ListRow};
 ghost use Rattle.list_schedule.specs.OneAnswer.{Fresh, beside};
 
 // The list schedule's state: the step, and a start for each operation, 0 for one that is not placed.
@@ -42,41 +41,6 @@ fn full(starts: &[u16; OPERATIONS], n: usize) -> bool
         i += 1;
     }
     true
-}
-
-// Refusals 1 to 4, 6 and 7: the first that applies is given.
-fn advance_fault(
-    delays: &[u8],
-    types: &[u8],
-    kinds: usize,
-    from: &[u16],
-    to: &[u16],
-    units: &[u8],
-) -> Answer
-    ensures { λ r. ⌜ First (advanceFront (lent (now (delays .entry)) (now (types .entry)) kinds (now (from .entry)) (now (to .entry))) (now (units .entry))) (refusalOf r) ⌝ }
-{
-    let matched = units.len() == kinds;
-    let fault = admission::graph::graph_unit_fault(delays, types, kinds, from, to, units, matched);
-    match fault {
-        Answer::Refused(why) => Answer::Refused(why),
-        Answer::Done => admission::precedence::cycle_fault(delays, from, to),
-    }
-}
-
-// Refusals 1 to 6: the first that applies is given.
-fn list_fault(
-    delays: &[u8],
-    types: &[u8],
-    kinds: usize,
-    from: &[u16],
-    to: &[u16],
-    units: &[u8],
-    room: usize,
-) -> Answer
-    ensures { λ r. ⌜ First (listFront (lent (now (delays .entry)) (now (types .entry)) kinds (now (from .entry)) (now (to .entry))) (now (units .entry)) room) (refusalOf r) ⌝ }
-{
-    let matched = units.len() == kinds;
-    admission::graph::front_unit_fault(delays, types, kinds, from, to, units, matched, room)
 }
 
 // The rule at step 1, 2, 3 and so on, from nothing placed until all are.
@@ -158,17 +122,14 @@ pub fn list_schedule(
 ) -> Scheduled
     ensures { λ r. ⌜ ListAnswer (lent (now (delays .entry)) (now (types .entry)) kinds (now (from .entry)) (now (to .entry))) (now (units .entry)) (now (out .entry)) r (now (out .exit)) ⌝ }
 {
-    let fault = list_fault(delays, types, kinds, from, to, units, out.len());
-    if let Answer::Refused(why) = fault {
-        return Scheduled::Refused(why);
-    }
-    let mut starts = [0u16; OPERATIONS];
-    let tried = admission::precedence::place(delays, from, to, &mut starts, out);
-    if let Answer::Refused(why) = tried {
+    let matched = units.len() == kinds;
+    let begun = admission::placed_with_units(delays, types, kinds, from, to, units, matched, out);
+    let answer = begun.answer;
+    if let Answer::Refused(why) = answer {
         return Scheduled::Refused(why);
     }
     let row = schedule(delays, types, from, to, units);
-    admission::graph::fill(&row, delays.len(), out);
+    admission::rows::fill(&row, delays.len(), out);
     Scheduled::Latency(latency::latency(delays, &row))
 }
 
@@ -205,7 +166,8 @@ impl State {
     ) -> Advanced
         ensures { λ r. ⌜ AdvanceAnswer (lent (now (delays .entry)) (now (types .entry)) kinds (now (from .entry)) (now (to .entry))) (now (units .entry)) (self .starts) (self .step) (refusalOf (r .answer)) (r .state .starts) (r .state .step) ⌝ }
     {
-        let fault = advance_fault(delays, types, kinds, from, to, units);
+        let matched = units.len() == kinds;
+        let fault = admission::graph_with_units(delays, types, kinds, from, to, units, matched);
         if let Answer::Refused(why) = fault {
             return self.unmoved(Answer::Refused(why));
         }

@@ -1,32 +1,36 @@
--- A question put together: the beginning's refusals, the bound's, and then what the search found.
-use mathlib.Core.Path.{_≡_, refl, sym, ap, subst}
+-- A question put together: what admission refuses, the windows, and then what the search found.
+use mathlib.Core.Path.{_≡_, refl, sym, subst}
 use mathlib.Core.Bool.{Bool, true, false}
-use mathlib.Core.Logic.{inl, inr, ⊎-elim}
-use mathlib.Core.Option.{Option, none, some}
-use mathlib.Core.List.{List, [], _∷_, _++_}
+use mathlib.Core.Option.{Option, none}
+use mathlib.Core.List.{List}
 use Prim.Native.Nat.{ℕ, _≤_, _<_}
 use native.Mathlib.Omega.{arith}
 use lib.ListN.{length}
-use Rattle.maths.specs.Cases.{Tells, same-or-not}
+use Rattle.maths.specs.Cases.{Tells}
 use Rattle.maths.specs.Tests.{off}
-use Rattle.maths.specs.TellLaws.{on}
 use Rattle.maths.specs.Rows.{at}
 use Rattle.model.specs.Limits as limit
+use Rattle.model.specs.Order.{Closed}
 use Rattle.model.specs.Graph.{Graph, order, many, lent, Sound}
-use Rattle.model.specs.Refusals.{Check, First, Flat, output, unitless, cyclic, large-bound, late-bound}
-use Rattle.theory.specs.refusals.FirstRefusal.{first-pass, Never, never-append}
-use Rattle.theory.specs.refusals.SoundGraph.{shape-own-then}
-use Rattle.model.specs.Answers.{refusalOf, numbered, Answered}
-use Rattle.theory.specs.refusals.RowAfterwards.{answered-refused, answered-passed, refused-stays, row-is, row-given}
-use Rattle.theory.specs.refusals.CycleAndBounds.{large-bound-never, late-bound-never}
-use Rattle.model.specs.Listing.{ListerUneven, ManyWindows, Gives, ListerAnswer}
-use Rattle.model.specs.declared.Answer.{Answer}
+use Rattle.model.specs.Refusals.{First, ListerUneven, product, many-windows}
+use Rattle.model.specs.Checks.{listerChecks}
+use Rattle.model.specs.Answers.{Answered}
+use Rattle.model.specs.Listing.{Gives, ListerAnswer}
 use Rattle.model.specs.declared.Answer.the-variants.{Done, Refused}
 use Rattle.model.specs.declared.Refusal.{Refusal}
+use Rattle.model.specs.declared.Refusal.the-variants.{TooManyWindows}
 use Rattle.model.specs.declared.Listed.{Listed}
 use Rattle.model.specs.declared.Listed.the-variants as answers
-use Rattle.lister.specs.Search.{job, Sized}
-use Rattle.lister.specs.Asking.{askedOf, Matched, frontChecks, backChecks, FrontAdmitted, BackAdmitted, Sought}
+use Rattle.theory.specs.refusals.FirstRefusal.{first-none-append}
+use Rattle.theory.specs.refusals.SoundGraph.{closed}
+use Rattle.theory.specs.refusals.RowAfterwards.{WritesNothing}
+use Rattle.admission.specs.declared.Begun.{Begun}
+use Rattle.admission.specs.Admitted.{placedUnitChecks, boundChecks, placedUnitWithinChecks, StartsRow, Admitted}
+use Rattle.admission.specs.AdmissionLaws.{admitted-matched, matches-both, matches-yes, admitted-refused, admitted-first, admitted-kept, admitted-starts, admitted-late, admitted-given, admitted-sound, admitted-room, passed-own, bound-low, bound-within}
+use Rattle.tables.specs.LatestRow.{RoomWithin, LatestRow}
+use Rattle.lister.specs.Search.{job, Sized, spans, Windows}
+use Rattle.lister.specs.Asking.{askedOf, Matched, Sought}
+use Rattle.lister.proofs.Bounding.{bound-windows, windows-many, windows-few}
 
 -- ---- the rows that only the lister takes
 module _ (g : Graph) (units : List ℕ) {matched : Bool} where
@@ -35,8 +39,7 @@ module _ (g : Graph) (units : List ℕ) {matched : Bool} where
       → Matched g units false row matched
   unfolding ListerUneven askedOf
   matched-first row long t = record {
-    even = λ yes own. own (t .yes yes .0);
-    odd = λ not e. t .none not (e, refl);
+    own = record { odd = λ not e. t .none not (e, refl); even = λ own. off matched (λ yes. own (t .yes yes .0)) };
     counts = λ yes. t .yes yes .0;
     long = λ yes few. omega arith;
   }
@@ -45,21 +48,18 @@ module _ (g : Graph) (units : List ℕ) {matched : Bool} where
   pub matched-next : (row : List ℕ) → Tells matched ((length units ≡ g .kinds) × (length row ≡ many g)) → Matched g units true row matched
   unfolding ListerUneven askedOf
   matched-next row t = record {
-    even = λ yes own. ⊎-elim (λ h. h (t .yes yes .0)) (λ h. h (t .yes yes .1)) own;
-    odd = λ not. ⊎-elim (λ e. inr (λ d. t .none not (e, d))) (λ n. inl n) (same-or-not (length units) (g .kinds));
+    own = matches-both t;
     counts = λ yes. t .yes yes .0;
     long = λ yes few. omega (arith, t .yes yes .1);
   }
 
--- ---- the question's parts
-back-never : (g : Graph) (bound : ℕ) → Never 7 (backChecks g bound)
-unfolding Never
-back-never g bound =
-    never-append 7 (large-bound bound ++ late-bound (order g) bound) (Flat 10 (ManyWindows g bound) ∷ [])
-    (never-append 7 (large-bound bound) (late-bound (order g) bound) (large-bound-never bound 7 (omega arith)) (late-bound-never (order g) bound 7 (omega arith)))
-    (λ p h. omega (arith, h .is), tt)
+-- refusal 10 writes nothing
+windows-unwritten : (g : Graph) (bound : ℕ) → WritesNothing (many-windows g bound)
+unfolding WritesNothing
+windows-unwritten g bound = (λ r. refl, tt)
 
-module _ (d t : List ℕ) (kinds : ℕ) (f o units : List ℕ) (bound : ℕ) {equal matched : Bool} {row : List ℕ} (m : Matched (lent d t kinds f o) units equal row matched) {before s out : List ℕ} {a : Answer} (b : FrontAdmitted (lent d t kinds f o) units (matched ≡ false) before a s out) where
+-- ---- the question's parts
+module _ (d t : List ℕ) (kinds : ℕ) (f o units : List ℕ) (bound : ℕ) {equal matched : Bool} {row : List ℕ} (m : Matched (lent d t kinds f o) units equal row matched) {before out : List ℕ} {b : Begun} (h : Admitted (order (lent d t kinds f o)) (placedUnitWithinChecks (lent d t kinds f o) (matched ≡ false) (length before) units bound) before b out) where
   -- the graph that is lent
   abbrev g : Graph
   g = lent d t kinds f o
@@ -68,75 +68,72 @@ module _ (d t : List ℕ) (kinds : ℕ) (f o units : List ℕ) (bound : ℕ) {eq
   abbrev asked : Option (List ℕ)
   asked = askedOf equal row
 
-  -- refusals 1 to 7, in 01's words
-  abbrev front : List Check
-  front = frontChecks g units (ListerUneven g units asked) (length before)
+  -- that the rows do not match
+  abbrev Odd : Type 0
+  Odd = ListerUneven g units asked
 
-  -- the output row is as it was
-  abbrev stays : List ℕ → Type 0
-  stays r = r ≡ before
+  -- refusals 1 to 9, in 01's words
+  begun : Admitted (order g) (placedUnitWithinChecks g Odd (length before) units bound) before b out
+  begun = admitted-matched (m .own) h
 
-  -- that the rows do not match is said in 01's words
-  begun-as : {x : Answer} → a ≡ x → Answered (order g) front before stays (refusalOf x) out
-  begun-as {x} e =
-      let h = subst (λ (r : Answer). Answered (order g) (frontChecks g units (matched ≡ false) (length before)) before stays (refusalOf r) out) e (b .answered) in
-      record {
-        first = shape-own-then g (matched ≡ false) (ListerUneven g units asked) (m .odd) (λ own. off matched (λ yes. m .even yes own))
-            ((output g (length before) ++ unitless g units) ++ cyclic (order g))
-            (refusalOf x)
-            (h .first);
-        row = h .row;
+  -- refused by one of the first nine
+  pub ask-refused : {why : Refusal} → b .answer ≡ Refused why → ListerAnswer g units bound asked before (answers.Refused why) out
+  ask-refused {why} e = admitted-refused begun (many-windows g bound) (Gives g units bound asked before (answers.Refused why)) e
+
+  module _ (e : b .answer ≡ Done) where
+    sound : Sound g
+    sound = admitted-sound begun e
+
+    early : StartsRow (order g) (b .starts)
+    early = admitted-starts begun e
+
+    yes : matched ≡ true
+    yes = matches-yes (m .own) (passed-own g Odd _ (admitted-first begun e))
+
+    bounded : First (boundChecks (order g) bound) none
+    bounded = first-none-append (placedUnitChecks g Odd (length before) units) (boundChecks (order g) bound) (admitted-first begun e) .1
+
+    low : bound ≤ limit.steps
+    low = bound-low (order g) bound bounded
+
+    -- there are latest starts
+    pub ask-latest : Closed limit.longest (order g) × ((bound ≤ limit.steps) × RoomWithin (order g) bound)
+    ask-latest = (
+      closed g sound,
+      (low, record { row = b .starts; keeps = early .is .keeps; within = bound-within (order g) bound bounded early }),
+    )
+
+    module _ {late : List ℕ} (k : LatestRow (order g) bound late) where
+      -- so the windows are known
+      pub ask-windows : (length d ≤ limit.operations) × Windows (b .starts) late (length d)
+      ask-windows = (sound .few, bound-windows g (closed g sound) bound low (b .starts) (early .is) k)
+
+      -- refused by the tenth
+      pub ask-many : limit.windows < product (spans (b .starts) late (length d)) (length d)
+          → ListerAnswer g units bound asked before (answers.Refused TooManyWindows) out
+      ask-many above =
+          admitted-late begun e (many-windows g bound) (Gives g units bound asked before (answers.Refused TooManyWindows)) (10, 0) (windows-unwritten g bound)
+          (windows-many g (closed g sound) bound low (b .starts) (early .is) k above)
+
+      few : (i : ℕ) → i < length d → at late i ≤ limit.steps
+      few i l = omega (arith, k .is .within .ends i l, sound .delay-from i l, low)
+
+      -- the search can begin
+      pub ask-sized : Sized (job d t f o units (b .starts) late row) out
+      ask-sized = record {
+        sound = subst (λ (n : ℕ). Sound (lent d t n f o)) (sym (m .counts yes)) sound;
+        few = few;
+        after = m .long yes (sound .few);
+        row = admitted-room begun e;
       }
 
-  -- refused by one of the first seven
-  pub ask-refused : {why : Refusal} → a ≡ Refused why → ListerAnswer g units bound asked before (answers.Refused why) out
-  ask-refused {why} e = answered-refused (order g) front (backChecks g bound) before stays _ (numbered why) out (begun-as e)
-
-  module _ (e : a ≡ Done) where
-    passed : refusalOf a ≡ none
-    passed = ap refusalOf e
-
-    kept : out ≡ before
-    kept = row-is (order g) before stays out (begun-as e .row)
-
-    module _ {w : Answer} {late : List ℕ} (c : BackAdmitted g bound w late) where
-      -- refused by one of the last three
-      pub ask-bounded : {why : Refusal} → w ≡ Refused why → ListerAnswer g units bound asked before (answers.Refused why) out
-      ask-bounded {why} e′ =
-          answered-passed (order g) front (backChecks g bound) before _ (some (numbered why)) out (begun-as e .first)
-          (refused-stays (order g) (backChecks g bound) before _ (numbered why) out (back-never g bound)
-          (subst (λ (r : Answer). First (backChecks g bound) (refusalOf r)) e′ (c .first))
-          kept)
-
-      module _ (e′ : w ≡ Done) where
-        counts : length units ≡ kinds
-        counts = m .counts (on matched (b .own passed))
-
-        few : (i : ℕ) → i < length d → at late i ≤ limit.steps
-        few i l =
-            let sound = b .sound passed in
-            let late-in = c .latest (ap refusalOf e′) .within .ends i l in
-            omega (arith, sound .delay-from i l, c .low (ap refusalOf e′))
-
-        -- the search can begin
-        pub ask-sized : Sized (job d t f o units s late row) out
-        ask-sized = record {
-          sound = subst (λ (k : ℕ). Sound (lent d t k f o)) (sym counts) (b .sound passed);
-          few = few;
-          after = m .long (on matched (b .own passed)) (b .sound passed .few);
-          row = omega (arith, b .room passed, ap length kept);
-        }
-
-        -- and its answer is the question's
-        pub ask-sought : {r : Listed} {after : List ℕ} → Sought (job d t f o units s late row) equal out r after
-            → ListerAnswer g units bound asked before r after
-        ask-sought {r} {after} h =
-            subst (λ (x : Option (ℕ × ℕ)). Answered (order g) (front ++ backChecks g bound) before (Gives g units bound asked before r) x after) (sym (h .passes))
-            (record {
-              first = first-pass front (backChecks g bound) none (begun-as e .first)
-                  (subst (λ (x : Answer). First (backChecks g bound) (refusalOf x)) e′ (c .first));
-              row = row-given (order g) before (Gives g units bound asked before r) after
-                  (subst (λ (k : ℕ). Gives (lent d t k f o) units bound asked before r after) counts
-                  (subst (λ (x : List ℕ). Gives (lent d t (length units) f o) units bound asked x r after) kept
-                  (h .gives bound (b .earliest passed) (c .latest (ap refusalOf e′)))));
-            })
+      -- and its answer is the question's
+      pub ask-sought : (limit.windows < product (spans (b .starts) late (length d)) (length d) → ⊥) → {r : Listed} {after : List ℕ}
+          → Sought (job d t f o units (b .starts) late row) equal out r after → ListerAnswer g units bound asked before r after
+      ask-sought under {r} {after} s =
+          subst (λ (x : Option (ℕ × ℕ)). Answered (listerChecks g units bound asked (length before)) before (Gives g units bound asked before r) x after) (sym (s .passes))
+          (admitted-given begun e (many-windows g bound) (Gives g units bound asked before r)
+          (windows-few g (closed g sound) bound low (b .starts) (early .is) k under)
+          (subst (λ (n : ℕ). Gives (lent d t n f o) units bound asked before r after) (m .counts yes)
+          (subst (λ (x : List ℕ). Gives (lent d t (length units) f o) units bound asked x r after) (admitted-kept begun e)
+          (s .gives bound (early .is) (k .is)))))

@@ -1,6 +1,5 @@
 mod Turns
 mod Whole
 mod Product
-mod Beginning
 mod Bounding
 mod Asking

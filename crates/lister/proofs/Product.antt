@@ -8,7 +8,7 @@ use native.Mathlib.Numerals.{add-one}
 use native.Mathlib.Omega.{arith}
 use Rattle.maths.specs.Rows.{at, tabulate-at}
 use Rattle.model.specs.Limits as limit
-use Rattle.model.specs.Listing.{product}
+use Rattle.model.specs.Refusals.{product}
 use Rattle.lister.specs.Search.{spans}
 
 product-step : (m : List ℕ) (i : ℕ) → product m (i + 1) ≡ product m i * (at m i + 1)

@@ -5,6 +5,8 @@ pub mod Placing
 pub mod Tables
 pub mod Cycle
 pub mod Refusals
+pub mod Channels
+pub mod Checks
 pub mod Answers
 pub mod Views
 pub mod Use

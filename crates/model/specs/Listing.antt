@@ -2,21 +2,18 @@
 use mathlib.Core.Path.{_≡_}
 use mathlib.Core.Bool.{Bool}
 use mathlib.Core.Option.{Option, none, some}
-use mathlib.Core.Logic.{_⊎_}
-use mathlib.Core.List.{List, [], _∷_, _++_}
-use Prim.Native.Nat.{ℕ, zero, suc, _+_, _*_, _<_}
+use mathlib.Core.List.{List, [], _∷_}
+use Prim.Native.Nat.{ℕ, _+_}
 use lib.Dec.{leb}
 use lib.ListN.{length}
 use Rattle.maths.specs.Tests.{_and_}
 use Rattle.maths.specs.Rows.{at}
 use Rattle.maths.specs.Count.{every}
 use Rattle.maths.specs.Words.{Before, words, keep}
-use Rattle.model.specs.Limits as limit
 use Rattle.model.specs.Order.{source, target}
 use Rattle.model.specs.Graph.{Graph, order, many, edgesOf, delay}
-use Rattle.model.specs.Tables.{Mobility}
 use Rattle.model.specs.Use.{running, Lawful}
-use Rattle.model.specs.Refusals.{Check, Flat, shape, output, unitless, cyclic, large-bound, late-bound}
+use Rattle.model.specs.Checks.{listerChecks}
 use Rattle.model.specs.Answers.{numbered, Fills, Answered}
 use Rattle.model.specs.declared.Listed as listed
 use Rattle.model.specs.declared.Listed.the-variants as answers
@@ -50,29 +47,6 @@ pub record Least (g : Graph) (units : List ℕ) (bound : ℕ) (asked : Option (L
 pub record NoneLeft (g : Graph) (units : List ℕ) (bound : ℕ) (asked : Option (List ℕ)) : Type 0 where
   pub none-later : (u : List ℕ) → Lawful g units bound u → Later (many g) asked u → ⊥
 
--- ---- the refusals
--- the product of (mobility + 1) over the first n entries
-unfoldable pub product : List ℕ → ℕ → ℕ
-product m zero = 1
-product m (suc n) = product m n * (at m n + 1)
-
--- 10: the product of (mobility + 1) over all operations exceeds the limit
-pub record ManyWindows (g : Graph) (bound : ℕ) : Type 0 where
-  pub mobility : List ℕ
-  pub is : Mobility g bound mobility
-  pub above : limit.windows < product mobility (many g)
-
--- the lent rows that only the lister takes differ in length: units and K, or the row asked after and n
-unfoldable pub ListerUneven : Graph → List ℕ → Option (List ℕ) → Type 0
-ListerUneven g units none = length units ≡ g .kinds → ⊥
-ListerUneven g units (some row) = (length units ≡ g .kinds → ⊥) ⊎ (length row ≡ many g → ⊥)
-
--- refusals 1 to 10
-abbrev pub listerChecks : Graph → List ℕ → ℕ → Option (List ℕ) → ℕ → List Check
-listerChecks g units bound asked room =
-    (((shape g (ListerUneven g units asked) ++ output g room) ++ unitless g units) ++ cyclic (order g))
-    ++ ((large-bound bound ++ late-bound (order g) bound) ++ (Flat 10 (ManyWindows g bound) ∷ []))
-
 -- ---- the answers
 -- the refusal that the answer gives, if it gives one
 abbrev pub refusalInListed : listed.Listed → Option (ℕ × ℕ)
@@ -94,7 +68,7 @@ Gives g units bound asked before (answers.Refused why) after = Unit {0}
 -- what `first` (asked after none) and `next` (asked after a row) answer and leave
 abbrev pub ListerAnswer : Graph → List ℕ → ℕ → Option (List ℕ) → List ℕ → listed.Listed → List ℕ → Type 0
 ListerAnswer g units bound asked out r after =
-    Answered (order g) (listerChecks g units bound asked (length out)) out (Gives g units bound asked out r) (refusalInListed r) after
+    Answered (listerChecks g units bound asked (length out)) out (Gives g units bound asked out r) (refusalInListed r) after
 
 -- ---- demand 3
 -- what asking gives, from a schedule on: itself, then the next, and so on until none is left

@@ -1,15 +1,14 @@
 -- What the list schedule and its advance answer, for every input.
 use mathlib.Core.Path.{_≡_}
 use mathlib.Core.Option.{Option, none, some}
-use mathlib.Core.Logic.{_⊎_}
-use mathlib.Core.List.{List, [], _∷_, _++_}
-use Prim.Native.Nat.{ℕ, _+_, _<_}
+use mathlib.Core.List.{List}
+use Prim.Native.Nat.{ℕ, _+_}
 use lib.ListN.{length}
-use Rattle.maths.specs.Rows.{at, over}
-use Rattle.model.specs.Limits as limit
-use Rattle.model.specs.Graph.{Graph, order, many}
+use Rattle.maths.specs.Rows.{over}
+use Rattle.model.specs.Graph.{Graph, order}
 use Rattle.model.specs.Tables.{Latency}
-use Rattle.model.specs.Refusals.{Check, First, Flat, shape, output, unitless, cyclic}
+use Rattle.model.specs.Refusals.{First}
+use Rattle.model.specs.Checks.{listChecks, advanceChecks}
 use Rattle.model.specs.Answers.{numbered, Answered}
 use Rattle.model.specs.Rule.{Labels, labelOrder, stepped, AllPlaced, ListStarts}
 use Rattle.model.specs.declared.Scheduled as scheduled
@@ -26,11 +25,6 @@ abbrev pub latencyIn : scheduled.Scheduled → ℕ
 latencyIn (answers.Latency l) = l
 latencyIn (answers.Refused why) = 0
 
--- refusals 1 to 7; the units are the row that only some questions take
-abbrev pub listChecks : Graph → List ℕ → ℕ → List Check
-listChecks g units room =
-    ((shape g (length units ≡ g .kinds → ⊥) ++ output g room) ++ unitless g units) ++ cyclic (order g)
-
 -- the list schedule's starts fill the output's first entries, and the rest stays; l is their latency
 pub record ListGiven (g : Graph) (units before : List ℕ) (l : ℕ) (after : List ℕ) : Type 0 where
   pub starts : List ℕ
@@ -41,21 +35,9 @@ pub record ListGiven (g : Graph) (units before : List ℕ) (l : ℕ) (after : Li
 -- what `list_schedule` answers and leaves
 abbrev pub ListAnswer : Graph → List ℕ → List ℕ → scheduled.Scheduled → List ℕ → Type 0
 ListAnswer g units out r after =
-    Answered (order g) (listChecks g units (length out)) out (ListGiven g units out (latencyIn r)) (refusalInScheduled r) after
+    Answered (listChecks g units (length out)) out (ListGiven g units out (latencyIn r)) (refusalInScheduled r) after
 
 -- ---- the advance
--- 11: an operation is unplaced, and the step is outside 1 to the last
-pub record Outside (g : Graph) (t : List ℕ) (step : ℕ) : Type 0 where
-  pub operation : ℕ
-  pub inside : operation < many g
-  pub unplaced : at t operation ≡ 0
-  pub out : (step < 1) ⊎ (limit.steps < step)
-
--- refusals 1 to 4, 6, 7, then 11
-abbrev pub advanceChecks : Graph → List ℕ → List ℕ → ℕ → List Check
-advanceChecks g units t step =
-    ((shape g (length units ≡ g .kinds → ⊥) ++ unitless g units) ++ cyclic (order g)) ++ (Flat 11 (Outside g t step) ∷ [])
-
 -- the rule at the state's step, and one step further on
 pub record Moves (g : Graph) (units t : List ℕ) (step : ℕ) (t′ : List ℕ) (step′ : ℕ) : Type 0 where
   pub labels : List ℕ

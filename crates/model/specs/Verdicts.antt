@@ -1,15 +1,15 @@
 -- What the checker and peak use answer, for every input.
 use mathlib.Core.Path.{_≡_}
 use mathlib.Core.Option.{Option, none, some}
-use mathlib.Core.List.{List, _++_}
-use mathlib.Core.Logic.{_⊎_}
+use mathlib.Core.List.{List}
 use Prim.Native.Nat.{ℕ, _<_}
 use lib.ListN.{length, replicate}
 use Rattle.maths.specs.Rows.{at}
 use Rattle.maths.specs.Lowest.{Lowest, None}
 use Rattle.model.specs.Limits as limit
-use Rattle.model.specs.Graph.{Graph, order, many, edgesOf}
-use Rattle.model.specs.Refusals.{Check, First, shape, unitless, cyclic, large-bound}
+use Rattle.model.specs.Graph.{Graph, many, edgesOf}
+use Rattle.model.specs.Refusals.{First}
+use Rattle.model.specs.Checks.{checkChecks, peakChecks}
 use Rattle.model.specs.Answers.{numbered, refusalOf}
 use Rattle.model.specs.Use.{Lawful, Peak}
 use Rattle.model.specs.Faults as fault
@@ -26,14 +26,6 @@ refusalInFinding (found.Broken e) = none
 refusalInFinding (found.OverUse l k) = none
 refusalInFinding (found.Refused why) = some (numbered why)
 
--- the lent rows that only the checker takes differ in length: units and K, or starts and n
-abbrev pub CheckUneven : Graph → List ℕ → List ℕ → Type 0
-CheckUneven g units t = (length units ≡ g .kinds → ⊥) ⊎ (length t ≡ many g → ⊥)
-
--- the checker's refusals: 1 to 4, 6, 7, 8
-abbrev pub checkChecks : Graph → List ℕ → ℕ → List ℕ → List Check
-checkChecks g units bound t = shape g (CheckUneven g units t) ++ (unitless g units ++ (cyclic (order g) ++ large-bound bound))
-
 -- lawful, or the first fault: an untimely operation (the lowest), a broken edge (the lowest), over-use (the earliest step, then the lowest type)
 unfoldable pub Finds : Graph → List ℕ → ℕ → List ℕ → finding.Finding → Type 0
 Finds g units bound t found.Lawful = Lawful g units bound t
@@ -46,10 +38,6 @@ Finds g units bound t (found.Refused why) = Unit {0}
 pub record Checked (g : Graph) (units : List ℕ) (bound : ℕ) (t : List ℕ) (v : Verdict) : Type 0 where
   pub first : First (checkChecks g units bound t) (refusalInFinding (v .finding))
   pub finds : Finds g units bound t (v .finding)
-
--- peak use's refusals: 1 to 4 and 7
-abbrev pub peakChecks : Graph → List ℕ → List Check
-peakChecks g t = shape g (length t ≡ many g → ⊥) ++ cyclic (order g)
 
 -- the four numbers: each type's peak where answered, zeros where refused
 unfoldable pub Counts : Graph → List ℕ → Option (ℕ × ℕ) → List ℕ → Type 0

@@ -5,23 +5,15 @@ use Prim.Native.Nat.{ℕ}
 use native.Mathlib.Omega.{arith}
 use Rattle.maths.specs.Rows.{same-row}
 use Rattle.model.specs.Graph.{Graph}
-use Rattle.model.specs.Refusals.{First}
-use Rattle.model.specs.Answers.{refusalOf}
-use Rattle.theory.specs.refusals.RefusalNumbers.{answer-one}
 use Rattle.theory.specs.unit_use.RunningAndPeak.{peak-one}
-use Rattle.model.specs.Verdicts.{PeakAnswer, peakChecks}
-use Rattle.theory.specs.unit_use.OneVerdict.{peak-answer-one, peak-ones}
-use Rattle.model.specs.declared.Answer.{Answer}
+use Rattle.model.specs.Verdicts.{PeakAnswer}
+use Rattle.theory.specs.unit_use.OneVerdict.{peak-answer-one}
 use Rattle.model.specs.declared.Peaks.{Peaks}
 use Rattle.peak_use.specs.Peaking.{AllPeaks}
 
 -- of `peak_use`
 pub peak-use-one : (g : Graph) (t : List ℕ) (p q : Peaks) → PeakAnswer g t p → PeakAnswer g t q → p ≡ q
 peak-use-one = peak-answer-one
-
--- of `peak_fault`
-pub peak-fault-one : (g : Graph) (t : List ℕ) (r s : Answer) → First (peakChecks g t) (refusalOf r) → First (peakChecks g t) (refusalOf s) → r ≡ s
-peak-fault-one g t = answer-one (peakChecks g t) (peak-ones g t)
 
 -- of `peaks`
 pub peaks-one : (g : Graph) (t c d : List ℕ) → AllPeaks g t c → AllPeaks g t d → c ≡ d

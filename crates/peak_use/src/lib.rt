@@ -7,9 +7,7 @@ ghost use mathlib.Core.List.{List};
 ghost use Prim.Native.Nat.{ℕ, max};
 ghost use lib.ListN.{length};
 ghost use Rattle.model.specs.Graph.{graphOf, lent};
-ghost use Rattle.model.specs.Refusals.{First};
-ghost use Rattle.model.specs.Answers.{refusalOf};
-ghost use Rattle.model.specs.Verdicts.{peakChecks, PeakAnswer};
+ghost use Rattle.model.specs.Verdicts.{PeakAnswer};
 ghost use Rattle.peak_use.specs.Peaking.{Countable, AllPeaks};
 
 // The larger of two numbers.
@@ -39,31 +37,6 @@ fn peaks(busy: &[u8], types: &[u8], starts: &[u16]) -> [usize; KINDS]
     counts
 }
 
-// Peak use's refusals: 1 to 4 and 7.
-fn peak_fault(
-    delays: &[u8],
-    types: &[u8],
-    kinds: usize,
-    from: &[u16],
-    to: &[u16],
-    starts: &[u16],
-) -> Answer
-    ensures { λ r. ⌜ First (peakChecks (lent (now (delays .entry)) (now (types .entry)) kinds (now (from .entry)) (now (to .entry))) (now (starts .entry))) (refusalOf r) ⌝ }
-{
-    let shape = admission::graph::graph_fault(
-        delays,
-        types,
-        kinds,
-        from,
-        to,
-        starts.len() == delays.len(),
-    );
-    if let Answer::Refused(why) = shape {
-        return Answer::Refused(why);
-    }
-    admission::precedence::cycle_fault(delays, from, to)
-}
-
 // For each type the largest number of operations that are running at any one step; zeros when refused.
 pub fn peak_use(
     delays: &[u8],
@@ -75,7 +48,8 @@ pub fn peak_use(
 ) -> Peaks
     ensures { λ r. ⌜ PeakAnswer (lent (now (delays .entry)) (now (types .entry)) kinds (now (from .entry)) (now (to .entry))) (now (starts .entry)) r ⌝ }
 {
-    let fault = peak_fault(delays, types, kinds, from, to, starts);
+    let matched = starts.len() == delays.len();
+    let fault = admission::graph(delays, types, kinds, from, to, matched);
     match fault {
         Answer::Refused(why) => Peaks {
             answer: Answer::Refused(why),

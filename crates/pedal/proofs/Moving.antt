@@ -2,16 +2,18 @@
 use mathlib.Core.Path.{_≡_, refl, sym, ap, subst, _∙_}
 use mathlib.Core.Bool.{false}
 use mathlib.Core.Option.{Option, none, some}
-use mathlib.Core.Logic.{⊎-elim}
-use mathlib.Core.List.{List}
+use mathlib.Core.Logic.{inl, inr, ⊎-elim}
+use mathlib.Core.List.{List, _++_}
 use Prim.Native.Nat.{ℕ}
 use native.Mathlib.Omega.{arith}
 use lib.ListN.{length, take}
 use lib.Seq.{take-all}
 use Rattle.maths.specs.Rows.{over, same-row, over-long, over-front}
 use Rattle.model.specs.Limits as limit
-use Rattle.model.specs.Graph.{Graph}
-use Rattle.model.specs.Refusals.{First, shape}
+use Rattle.model.specs.Graph.{Graph, order}
+use Rattle.model.specs.Refusals.{Check, First, Uneven, shape, cyclic}
+use Rattle.theory.specs.refusals.FirstRefusal.{flat-not}
+use Rattle.admission.specs.Admitted.{graphChecks}
 use Rattle.theory.specs.refusals.SoundGraph.{shape-own}
 use Rattle.model.specs.Answers.{refusalOf}
 use Rattle.theory.specs.list.OneStep.{stepped-long}
@@ -40,13 +42,23 @@ over-whole row before a b =
     ∙ same-row (over row before) row (over-long row before (omega arith) ∙ sym room)
     (λ i l. over-front row before (omega arith) i (omega (arith, over-long row before (omega arith))))
 
+-- where the question's own rows do not match, one of refusals 1 and 2 is given, whatever follows
+own-decides : (g : Graph) (Own : Type 0) (rest : List Check) (x : Option (ℕ × ℕ)) → Own → First (shape g Own ++ rest) x → First (shape g Own) x
+unfolding First
+own-decides g Own rest none own h = absurd (flat-not 2 _ (h .1 .0) (Uneven.own own))
+own-decides g Own rest (some r) own h =
+    ⊎-elim
+    (λ k. inl k)
+    (λ k. inr (k .0, ⊎-elim (λ m. inl m) (λ m. absurd (flat-not 2 _ (m .0) (Uneven.own own))) (k .1)))
+    h
+
 module _ {g : Graph} {units before : List ℕ} {step : ℕ} where
-  pub no-state-said : (a : Answer) {said : Filled} → (length before ≡ limit.operations → ⊥) → First (shape g (false ≡ false)) (refusalOf a) → said ≡ filledOf a
+  pub no-state-said : (a : Answer) {said : Filled} → (length before ≡ limit.operations → ⊥) → First (graphChecks g (false ≡ false)) (refusalOf a) → said ≡ filledOf a
       → AdvanceSaid g units before step (record { refusal = said .refusal; place = said .place; step = step }) before
   no-state-said a {said} n h e = record {
     no-state = λ x. record {
       answer = a;
-      is = (shape-own g (false ≡ false) (Unit {0}) (λ q. tt) (λ q. refl) (refusalOf a) h, refl);
+      is = (shape-own g (false ≡ false) (Unit {0}) (λ q. tt) (λ q. refl) (refusalOf a) (own-decides g (false ≡ false) (cyclic (order g)) (refusalOf a) refl h), refl);
       said = ap (λ (f : Filled). record { refusal = f .refusal; place = f .place; step = step }) e;
     };
     state = λ x. absurd (n x);

@@ -10,7 +10,8 @@ use Rattle.model.specs.Answers.{numbered, refusalOf}
 use Rattle.model.specs.Scheduling.{AdvanceAnswer}
 use Rattle.model.specs.declared.Answer.{Answer}
 use Rattle.model.specs.declared.Answer.the-variants as answers
-use Rattle.model.specs.Views.{Table, ViewRefusal}
+use Rattle.model.specs.Views.{ViewRefusal}
+use Rattle.model.specs.Channels.{Table}
 use Rattle.pedal.specs.declared.Filled.{Filled}
 use Rattle.pedal.specs.declared.Part.{Part}
 use Rattle.pedal.specs.declared.Scheduled.{Scheduled}

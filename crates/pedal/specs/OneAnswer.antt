@@ -18,7 +18,7 @@ use Rattle.theory.specs.list.OneListAnswer.{list-answer-one, advance-answer-one
 use Rattle.model.specs.Verdicts.{Checked, PeakAnswer}
 use Rattle.model.specs.Listing.{ListerAnswer}
 use Rattle.theory.specs.lister.OneListerAnswer.{lister-answer-one}
-use Rattle.model.specs.Views.{Table}
+use Rattle.model.specs.Channels.{Table}
 use Rattle.theory.specs.views.OneView.{view-refusal-one}
 use Rattle.checker.specs.OneAnswer.{check-one}
 use Rattle.peak_use.specs.OneAnswer.{peak-use-one}

@@ -377,7 +377,7 @@ pub extern "C" fn pedal_advance(
     ensures { λ r. ⌜ AdvanceSaid (lent (now (delays .entry)) (now (types .entry)) kinds (now (from .entry)) (now (to .entry))) (now (units .entry)) (now (starts .entry)) step r (now (starts .exit)) ⌝ }
 {
     if starts.len() != OPERATIONS {
-        let wrong = as_filled(admission::graph::graph_fault(delays, types, kinds, from, to, false));
+        let wrong = as_filled(admission::graph(delays, types, kinds, from, to, false));
         return Advanced {
             refusal: wrong.refusal,
             place: wrong.place,
@@ -391,7 +391,7 @@ pub extern "C" fn pedal_advance(
     let after = state.advance(delays, types, kinds, from, to, units);
     let next = after.state;
     let row = next.starts;
-    admission::graph::fill(&row, OPERATIONS, starts);
+    admission::rows::fill(&row, OPERATIONS, starts);
     let answer = after.answer;
     let said = as_filled(answer);
     Advanced {

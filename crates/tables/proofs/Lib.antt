@@ -1,4 +1,3 @@
 -- Laws for the proofs of this crate.
 mod Reading
-mod Beginning
 mod Filling

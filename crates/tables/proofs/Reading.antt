@@ -16,7 +16,7 @@ use Rattle.theory.specs.refusals.SoundGraph.{closed-turned}
 use Rattle.theory.specs.order.PlacingOutcome.{placing-done, placing-cyclic}
 use Rattle.theory.specs.tables.LatestTurned.{latest-turned, mirror, mirror-at, mirror-keeps}
 use Rattle.theory.specs.tables.KeepingStarts.{keeps-acyclic}
-use Rattle.tables.specs.Admitted.{RoomWithin, LatestRow}
+use Rattle.tables.specs.LatestRow.{RoomWithin, LatestRow}
 
 -- what a start within the bound is made of, from the start turned round
 abbrev pub read : Order → ℕ → List ℕ → ℕ → ℕ

@@ -1,2 +1,2 @@
-pub mod Admitted
+pub mod LatestRow
 pub mod OneAnswer

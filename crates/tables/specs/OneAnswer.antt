@@ -8,7 +8,7 @@ use Rattle.maths.specs.Rows.{same-row}
 use Rattle.model.specs.Order.{Order, size}
 use Rattle.theory.specs.tables.OneTable.{latest-starts-one}
 pub use Rattle.theory.specs.tables.OneTableAnswer.{asap-answer-one, alap-answer-one, mobility-answer-one}
-use Rattle.tables.specs.Admitted.{LatestRow}
+use Rattle.tables.specs.LatestRow.{LatestRow}
 
 -- any two rows that the contract of `latest` allows are equal
 pub latest-row-one : (o : Order) (bound : ℕ) (a b : List ℕ) → LatestRow o bound a → LatestRow o bound b → a ≡ b

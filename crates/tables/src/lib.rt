@@ -1,62 +1,12 @@
 // The tables of a graph: earliest starts, latest starts, mobility.
 use model::Answer;
-use model::Refusal;
 use model::limits::OPERATIONS;
-use model::limits::STEPS;
 ghost use Prim.Native.Nat.{_≤_};
-ghost use lib.ListN.{length};
 ghost use Rattle.model.specs.Limits as limit;
 ghost use Rattle.model.specs.Order.{ordered, Closed};
 ghost use Rattle.model.specs.Graph.{lent};
 ghost use Rattle.model.specs.Answers.{AsapAnswer, AlapAnswer, MobilityAnswer};
-ghost use Rattle.tables.specs.Admitted.{Admitted, AdmittedWithin, RoomWithin, LatestRow};
-
-// Refusals 1 to 5 and 7, and the earliest starts. A cycle is shown in `out`; any other refusal leaves it, and so does a pass.
-fn begin(
-    delays: &[u8],
-    types: &[u8],
-    kinds: usize,
-    from: &[u16],
-    to: &[u16],
-    starts: &mut [u16; OPERATIONS],
-    out: &mut [u16],
-) -> Answer
-    ensures { λ r. ⌜ Admitted (lent (now (delays .entry)) (now (types .entry)) kinds (now (from .entry)) (now (to .entry))) (now (out .entry)) r (now (starts .exit)) (now (out .exit)) ⌝ }
-{
-    let fault = admission::graph::front(delays, types, kinds, from, to, true, out.len());
-    match fault {
-        Answer::Refused(why) => Answer::Refused(why),
-        Answer::Done => admission::precedence::place(delays, from, to, starts, out),
-    }
-}
-
-// Refusals 1 to 5 and 7 to 9, and the earliest starts.
-fn begin_within(
-    delays: &[u8],
-    types: &[u8],
-    kinds: usize,
-    from: &[u16],
-    to: &[u16],
-    bound: usize,
-    starts: &mut [u16; OPERATIONS],
-    out: &mut [u16],
-) -> Answer
-    ensures { λ r. ⌜ AdmittedWithin (lent (now (delays .entry)) (now (types .entry)) kinds (now (from .entry)) (now (to .entry))) bound (now (out .entry)) r (now (starts .exit)) (now (out .exit)) ⌝ }
-{
-    let begun = begin(delays, types, kinds, from, to, starts, out);
-    match begun {
-        Answer::Refused(why) => Answer::Refused(why),
-        Answer::Done => {
-            if STEPS < bound {
-                return Answer::Refused(Refusal::BoundTooLarge);
-            }
-            if bound < latency::latency(delays, starts) {
-                return Answer::Refused(Refusal::BoundTooSmall);
-            }
-            Answer::Done
-        }
-    }
-}
+ghost use Rattle.tables.specs.LatestRow.{RoomWithin, LatestRow};
 
 // The latest starts within a bound that leaves room for some: the earliest of the order turned round, read from the bound backwards.
 pub fn latest(delays: &[u8], from: &[u16], to: &[u16], bound: usize) -> [u16; OPERATIONS]
@@ -87,12 +37,13 @@ pub fn asap(
 ) -> Answer
     ensures { λ r. ⌜ AsapAnswer (lent (now (delays .entry)) (now (types .entry)) kinds (now (from .entry)) (now (to .entry))) (now (out .entry)) r (now (out .exit)) ⌝ }
 {
-    let mut starts = [0u16; OPERATIONS];
-    let begun = begin(delays, types, kinds, from, to, &mut starts, out);
-    match begun {
+    let begun = admission::placed(delays, types, kinds, from, to, true, out);
+    let starts = begun.starts;
+    let answer = begun.answer;
+    match answer {
         Answer::Refused(why) => Answer::Refused(why),
         Answer::Done => {
-            admission::graph::fill(&starts, delays.len(), out);
+            admission::rows::fill(&starts, delays.len(), out);
             Answer::Done
         }
     }
@@ -110,13 +61,13 @@ pub fn alap(
 ) -> Answer
     ensures { λ r. ⌜ AlapAnswer (lent (now (delays .entry)) (now (types .entry)) kinds (now (from .entry)) (now (to .entry))) bound (now (out .entry)) r (now (out .exit)) ⌝ }
 {
-    let mut starts = [0u16; OPERATIONS];
-    let begun = begin_within(delays, types, kinds, from, to, bound, &mut starts, out);
-    match begun {
+    let begun = admission::placed_within(delays, types, kinds, from, to, true, bound, out);
+    let answer = begun.answer;
+    match answer {
         Answer::Refused(why) => Answer::Refused(why),
         Answer::Done => {
             let late = latest(delays, from, to, bound);
-            admission::graph::fill(&late, delays.len(), out);
+            admission::rows::fill(&late, delays.len(), out);
             Answer::Done
         }
     }
@@ -134,14 +85,15 @@ pub fn mobility(
 ) -> Answer
     ensures { λ r. ⌜ MobilityAnswer (lent (now (delays .entry)) (now (types .entry)) kinds (now (from .entry)) (now (to .entry))) bound (now (out .entry)) r (now (out .exit)) ⌝ }
 {
-    let mut starts = [0u16; OPERATIONS];
-    let begun = begin_within(delays, types, kinds, from, to, bound, &mut starts, out);
-    match begun {
+    let begun = admission::placed_within(delays, types, kinds, from, to, true, bound, out);
+    let starts = begun.starts;
+    let answer = begun.answer;
+    match answer {
         Answer::Refused(why) => Answer::Refused(why),
         Answer::Done => {
             let late = latest(delays, from, to, bound);
             let spread = latency::differences(&late, &starts, delays.len());
-            admission::graph::fill(&spread, delays.len(), out);
+            admission::rows::fill(&spread, delays.len(), out);
             Answer::Done
         }
     }

@@ -1,7 +1,7 @@
 -- From the fresh state as many advances as there are steps give the list schedule, and none of them is refused.
-use mathlib.Core.List.{List, [], _∷_, _++_}
-use Prim.Native.Nat.{ℕ, zero, suc, _+_, _-_}
-use lib.ListN.{replicate, take, length}
+use mathlib.Core.List.{List, _++_}
+use Prim.Native.Nat.{_+_, _-_, suc, zero, ℕ}
+use lib.ListN.{length, replicate, take}
 use mathlib.Core.Path.{refl, _≡_, sym, ap, subst, _∙_}
 use mathlib.Core.Logic.{⊎-elim}
 use mathlib.Core.Option.{Option, none}
@@ -11,8 +11,9 @@ use Rattle.model.specs.Order.{Order, size, weight, Closed, Cyclic}
 use Rattle.model.specs.Graph.{Graph, order, many}
 use Rattle.model.specs.Rule.{Labels, labelOrder, after, ListStarts, stepped, AllPlaced}
 use Rattle.model.specs.Limits as limit
-use Rattle.model.specs.Refusals.{First, Flat, shape, unitless, cyclic}
-use Rattle.model.specs.Scheduling.{Outside, advanceChecks, StateAfter, AdvanceAnswer}
+use Rattle.model.specs.Refusals.{First, shape, unitless, cyclic, Outside, outside}
+use Rattle.model.specs.Scheduling.{StateAfter, AdvanceAnswer}
+use Rattle.model.specs.Checks.{advanceChecks}
 use Rattle.theory.specs.order.PlacingOutcome.{placing-exists}
 use Rattle.theory.specs.list.LabelValues.{labels-placed, label-closed, label-acyclic, graph-labels-one}
 use Rattle.theory.specs.list.Progress.{Doable}
@@ -120,5 +121,5 @@ module _ (g : Graph) (units : List ℕ) (can : Doable g units) where
       → Advances g units k t step → (x : Option (ℕ × ℕ)) (t′ : List ℕ) (step′ : ℕ) → AdvanceAnswer g units t step x t′ step′ → x ≡ none
   never-refused passed k t step all x t′ step′ one =
       first-one (advanceChecks g units t step) (advance-ones g units t step) x none (one .first)
-      (first-pass ((shape g (length units ≡ g .kinds → ⊥) ++ unitless g units) ++ cyclic (order g)) (Flat 11 (Outside g t step) ∷ []) none passed
+      (first-pass ((shape g (length units ≡ g .kinds → ⊥) ++ unitless g units) ++ cyclic (order g)) (outside g t step) none passed
       (first-silent _ _ _ (flat-silent 11 _ (never-outside k t step all)) first-end))

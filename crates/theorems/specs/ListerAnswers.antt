@@ -7,9 +7,10 @@ use lib.ListN.{length, take, drop}
 use lib.Seq.{take-at}
 use Rattle.maths.specs.Cases.{none-some}
 use Rattle.model.specs.Graph.{Graph, order, many, Sound}
-use Rattle.model.specs.Refusals.{First, output, unitless, cyclic}
+use Rattle.model.specs.Refusals.{First, output, unitless, cyclic, ListerUneven}
 use Rattle.model.specs.Answers.{RowAfter}
-use Rattle.model.specs.Listing.{allLawful, Least, NoneLeft, ListerUneven, listerChecks, refusalInListed, Gives, ListerAnswer, Asked, AskedAll}
+use Rattle.model.specs.Listing.{allLawful, Least, NoneLeft, refusalInListed, Gives, ListerAnswer, Asked, AskedAll}
+use Rattle.model.specs.Checks.{listerChecks}
 use Rattle.model.specs.declared.Listed.{Listed}
 use Rattle.model.specs.declared.Listed.the-variants as answers
 use Rattle.theory.specs.refusals.FirstRefusal.{first-none-append}

@@ -8,8 +8,10 @@ use lib.ListN.{length, drop, length-drop}
 use lib.Seq.{length-take-le}
 use denote.Ref.{now, ptr}
 use Rattle.maths.specs.Cases.{same-or-not, le-or-lt}
-use Rattle.model.specs.Refusals.{First}
-use Rattle.model.specs.Views.{Table, NoChannel, chosen, viewChecks, PartOf, PartAfter, Viewed, numberOr0, ViewRefusal}
+use Rattle.model.specs.Refusals.{First, NoChannel}
+use Rattle.model.specs.Views.{PartOf, PartAfter, Viewed, numberOr0, ViewRefusal}
+use Rattle.model.specs.Channels.{Table, chosen}
+use Rattle.model.specs.Checks.{viewChecks}
 use Rattle.theory.specs.views.OneView.{Available, Named, PastEnd, passes, refuses-channel, refuses-range, view-checks-one}
 
 -- a channel is one of the two or neither

@@ -7,8 +7,10 @@ use borrow.Author.Tests.{ne-eqb}
 use lib.ListN.{length}
 use denote.Ref.{now}
 use Rattle.maths.specs.Cases.{le-or-lt}
-use Rattle.model.specs.Views.{Table, chosen, viewChecks, PartOf, PartAfter, Viewed, numberOr0, ViewRefusal}
+use Rattle.model.specs.Views.{PartOf, PartAfter, Viewed, numberOr0, ViewRefusal}
 use Rattle.model.specs.Refusals.{First}
+use Rattle.model.specs.Channels.{Table, chosen}
+use Rattle.model.specs.Checks.{viewChecks}
 use Rattle.theory.specs.views.OneView.{Named, passes, refuses-channel, refuses-range}
 use Rattle.views.specs.Part.{PartIn, RangeRefusal}
 

@@ -3,7 +3,8 @@ use mathlib.Core.Path.{_≡_}
 use Prim.Native.Nat.{ℕ, _+_, _<_, _≤_}
 use lib.ListN.{length}
 use denote.Ref.{now}
-use Rattle.model.specs.Views.{Table, PartOf}
+use Rattle.model.specs.Views.{PartOf}
+use Rattle.model.specs.Channels.{Table}
 
 -- r is the part asked for where t reaches so far, and the empty part at t's beginning otherwise
 pub record PartIn (t : Table) (first count : ℕ) (r : Table) : Type 0 where

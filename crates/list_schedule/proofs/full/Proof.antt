@@ -1,7 +1,7 @@
 -- The loop keeps that the starts passed are there. What is left of them falls.
 use Prim.Native.Nat.{_-_, _≤_}
 use borrow.Author.Needs.{needs}
-use Rattle.list_schedule.specs.Fronts.{Full}
+use Rattle.list_schedule.specs.WholeSchedule.{Full}
 use Rattle.list_schedule.proofs.Filling.{full-none, full-step, full-end, full-not}
 use Rattle.list_schedule.proofs.full.Statement.{statement}
 use Rattle.list_schedule.proofs.full.Tie as tie

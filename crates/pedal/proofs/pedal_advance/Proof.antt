@@ -4,14 +4,14 @@ use borrow.Author.Needs.{needs}
 use Rattle.pedal.proofs.pedal_advance.Statement.{statement}
 use Rattle.pedal.proofs.pedal_advance.Tie as tie
 
-graph-fault-requires : tie.Need-graph-fault-requires
-graph-fault-requires c κs = search needs
+graph-requires : tie.Need-graph-requires
+graph-requires c κs = search needs
 
 as-filled-requires : tie.Need-as-filled-requires
 as-filled-requires c κs = search needs
 
 returns : tie.Need-returns
-returns c = no-state-said (c .before .graph-fault .result) (c .before .before .if1 .taken) (c .before .graph-fault .ensures) (c .as-filled .ensures)
+returns c = no-state-said (c .before .graph .result) (c .before .before .if1 .taken) (c .before .graph .ensures) (c .as-filled .ensures)
 
 starts-of-requires : tie.Need-starts-of-requires
 starts-of-requires c κs = search needs
@@ -39,7 +39,7 @@ pub pedal-advance-spec : {M : Type 1} → statement M
 pedal-advance-spec =
     tie.close
     (tie.spec
-    graph-fault-requires
+    graph-requires
     as-filled-requires
     returns
     starts-of-requires

@@ -1,46 +1,42 @@
--- `alap` meets its contract: what `begin_within` refuses, or the latest starts written over the output.
+-- `alap` meets its contract: what `placed_within` refuses, or the latest starts written over the output.
 use borrow.Author.Needs.{needs}
-use mathlib.Core.Path.{_∙_}
-use Rattle.tables.proofs.Filling.{latest-fits, bounded-fits, bounded-again, alap-done}
+use Rattle.tables.proofs.Filling.{latest-fits, within-fits, within-refused, alap-done}
 use Rattle.tables.proofs.alap.Statement.{statement}
 use Rattle.tables.proofs.alap.Tie as tie
 
-begin-within-requires : tie.Need-begin-within-requires
-begin-within-requires c κs = search needs
+placed-within-requires : tie.Need-placed-within-requires
+placed-within-requires c κs = search needs
 
-enum-known-begun : tie.Need-enum-known-begun
-enum-known-begun c = search needs
+enum-known-answer : tie.Need-enum-known-answer
+enum-known-answer c = search needs
 
 enum-told : tie.Need-enum-told
 enum-told c = search needs
 
 latest-requires : tie.Need-latest-requires
-latest-requires c κs = latest-fits (c .before .before .before .before .begin-within .ensures) (c .enum-told .given .1)
+latest-requires c κs = latest-fits (c .before .before .before .before .placed-within .ensures) (c .enum-told .given .1)
 
 fill-requires : tie.Need-fill-requires
-fill-requires c κs = bounded-fits (c .before .before .before .before .before .before .before .begin-within .ensures) (c .before .before .before .enum-told .given .1)
+fill-requires c κs = within-fits (c .before .before .before .before .before .before .before .placed-within .ensures) (c .before .before .before .enum-told .given .1)
 
 same-length : tie.Need-same-length
-same-length c = c .before .before .before .before .before .begin-within .kept .1 .1 .1 .1 .1 .1 .1 .0
+same-length c = search needs
 
 returns : tie.Need-returns
-returns c = bounded-again (c .before .before .before .before .before .begin-within .ensures) _ (c .before .begun .given .1)
+returns c = within-refused (c .before .before .before .before .before .placed-within .ensures) _ (c .before .answer .given .1)
 
 same-length-2 : tie.Need-same-length-2
-same-length-2 c = c .before .before .fill .kept .1 .1 .0 ∙ c .before .before .before .before .before .before .before .before .before .before .begin-within .kept .1 .1 .1 .1 .1 .1 .1 .0
+same-length-2 c = search needs
 
 returns-2 : tie.Need-returns-2
-returns-2 c =
-    alap-done (c .before .before .before .before .before .before .before .before .before .before .begin-within .ensures) (c .before .before .before .before .before .before .enum-told .given .1)
-    (c .before .before .before .before .before .latest .ensures)
-    (c .before .before .fill .ensures)
+returns-2 c = alap-done (c .before .before .before .before .before .before .before .before .before .before .placed-within .ensures) (c .before .before .before .before .before .before .enum-told .given .1) (c .before .before .before .before .before .latest .ensures) (c .before .before .fill .ensures)
 
 pub alap-spec : {M : Type 1} → statement M
 alap-spec =
     tie.close
     (tie.spec
-    begin-within-requires
-    enum-known-begun
+    placed-within-requires
+    enum-known-answer
     enum-told
     latest-requires
     fill-requires

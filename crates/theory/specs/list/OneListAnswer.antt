@@ -2,7 +2,7 @@
 use mathlib.Core.Path.{_≡_, refl, sym, ap, subst, _∙_}
 use mathlib.Core.Logic.{_⊎_, inl, inr, ⊎-elim}
 use mathlib.Core.Option.{Option, none, some}
-use mathlib.Core.List.{List, [], _∷_, _++_}
+use mathlib.Core.List.{List, _++_}
 use Prim.Native.Nat.{ℕ, _≤_, _<_}
 use native.Mathlib.Omega.{arith}
 use lib.Dec.{eqb}
@@ -14,9 +14,10 @@ use Rattle.maths.specs.Counting.{some-or-none}
 use Rattle.model.specs.Order.{Order, Closed}
 use Rattle.model.specs.Graph.{Graph, Sound, order, many, delay, busyTime}
 use Rattle.model.specs.Tables.{Latency}
-use Rattle.model.specs.Refusals.{First, Flat, shape, output, unitless, cyclic}
+use Rattle.model.specs.Refusals.{First, shape, output, unitless, cyclic, Outside, outside}
 use Rattle.model.specs.Rule.{AllPlaced}
-use Rattle.model.specs.Scheduling.{listChecks, ListGiven, ListAnswer, Outside, advanceChecks, Moves, Stays, StateAfter, AdvanceAnswer}
+use Rattle.model.specs.Scheduling.{ListGiven, ListAnswer, Moves, Stays, StateAfter, AdvanceAnswer}
+use Rattle.model.specs.Checks.{listChecks, advanceChecks}
 use Rattle.model.specs.declared.Scheduled as scheduled
 use Rattle.model.specs.declared.Scheduled.the-variants as answers
 use Rattle.theory.specs.refusals.OneRefusal.{Ones, first-one, flat-one, ones-single, ones-append, graph-unit-ones, front-unit-ones}
@@ -25,7 +26,6 @@ use Rattle.theory.specs.refusals.RefusalNumbers.{numbered-one}
 use Rattle.theory.specs.refusals.RowAfterwards.{answered-one, row-is}
 use Rattle.theory.specs.tables.OneTable.{latency-one}
 use Rattle.theory.specs.order.Decided.{EarliestRow, kept-decided, acyclic-earliest}
-use Rattle.theory.specs.cycle.OneShown.{shown-one}
 use Rattle.theory.specs.cycle.SomeShown.{cyclic-shown}
 use Rattle.theory.specs.refusals.CycleAndBounds.{cyclic-ones}
 use Rattle.theory.specs.list.LabelValues.{graph-labels-one}
@@ -64,7 +64,7 @@ list-ones g units room =
 
 pub advance-ones : (g : Graph) (units t : List ℕ) (step : ℕ) → Ones (advanceChecks g units t step)
 advance-ones g units t step =
-    ones-append ((shape g (length units ≡ g .kinds → ⊥) ++ unitless g units) ++ cyclic (order g)) (Flat 11 (Outside g t step) ∷ [])
+    ones-append ((shape g (length units ≡ g .kinds → ⊥) ++ unitless g units) ++ cyclic (order g)) (outside g t step)
     (ones-append (shape g (length units ≡ g .kinds → ⊥) ++ unitless g units) (cyclic (order g))
     (graph-unit-ones g (length units ≡ g .kinds → ⊥) units)
     (cyclic-ones (order g)))
@@ -83,14 +83,14 @@ given-one g units before l m a b x y =
 pub list-answer-one : (g : Graph) (units out : List ℕ) (r s : scheduled.Scheduled) (a b : List ℕ)
     → ListAnswer g units out r a → ListAnswer g units out s b → (r ≡ s) × (a ≡ b)
 list-answer-one g units out (answers.Latency l) (answers.Latency m) a b x y =
-    let same = given-one g units out l m a b (row-is (order g) out (ListGiven g units out l) a (x .row)) (row-is (order g) out (ListGiven g units out m) b (y .row)) in
+    let same = given-one g units out l m a b (row-is (listChecks g units (length out)) out (ListGiven g units out l) a (x .row)) (row-is (listChecks g units (length out)) out (ListGiven g units out m) b (y .row)) in
     (ap answers.Latency (same .0), same .1)
 list-answer-one g units out (answers.Latency l) (answers.Refused w) a b x y =
     absurd (none-some (first-one (listChecks g units (length out)) (list-ones g units (length out)) _ _ (x .first) (y .first)))
 list-answer-one g units out (answers.Refused w) (answers.Latency m) a b x y =
     absurd (none-some (first-one (listChecks g units (length out)) (list-ones g units (length out)) _ _ (y .first) (x .first)))
 list-answer-one g units out (answers.Refused v) (answers.Refused w) a b x y =
-    let both = answered-one (order g) (listChecks g units (length out)) out (ListGiven g units out 0) (list-ones g units (length out)) (shown-one (order g)) _ _ a b
+    let both = answered-one (listChecks g units (length out)) out (ListGiven g units out 0) (list-ones g units (length out)) _ _ a b
     (λ p q. given-one g units out 0 0 a b p q .1) x y in
     (ap answers.Refused (numbered-one v w (some-one (both .0))), both .1)
 

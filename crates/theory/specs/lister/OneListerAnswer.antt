@@ -6,14 +6,14 @@ use Prim.Native.Nat.{ℕ}
 use lib.ListN.{length}
 use Rattle.maths.specs.Cases.{none-some, some-one}
 use Rattle.model.specs.Graph.{Graph, order}
-use Rattle.model.specs.Refusals.{Check}
+use Rattle.model.specs.Refusals.{Check, ManyWindows, ListerUneven}
 use Rattle.model.specs.Answers.{numbered, RowAfter}
-use Rattle.model.specs.Listing.{NoneLeft, ManyWindows, ListerUneven, listerChecks, refusalInListed, Gives, ListerAnswer}
+use Rattle.model.specs.Listing.{NoneLeft, refusalInListed, Gives, ListerAnswer}
+use Rattle.model.specs.Checks.{listerChecks}
 use Rattle.model.specs.declared.Listed.{Listed}
 use Rattle.model.specs.declared.Listed.the-variants as answers
 use Rattle.theory.specs.refusals.OneRefusal.{Ones, first-one, flat-one, ones-single, ones-append, front-unit-ones}
 use Rattle.theory.specs.refusals.RefusalNumbers.{numbered-one}
-use Rattle.theory.specs.cycle.OneShown.{shown-one}
 use Rattle.theory.specs.refusals.RowAfterwards.{answered-one, answered-again, fills-one}
 use Rattle.theory.specs.refusals.CycleAndBounds.{cyclic-ones, large-bound-ones, late-bound-ones}
 use Rattle.theory.specs.lister.OneLeast.{least-one, least-left}
@@ -49,13 +49,13 @@ module _ (g : Graph) (units : List ℕ) (bound : ℕ) (asked : Option (List ℕ)
   rows-one : (r : Listed) (a b : List ℕ) → ListerAnswer g units bound asked out r a → ListerAnswer g units bound asked out r b → a ≡ b
   unfolding Gives
   rows-one answers.Found a b x y =
-      answered-one (order g) checks out _ ones (shown-one (order g)) none none a b (fills-one _ out a b (least-one g units bound asked)) x y .1
+      answered-one checks out _ ones none none a b (fills-one _ out a b (least-one g units bound asked)) x y .1
   rows-one answers.NoneLeft a b x y =
-      answered-one (order g) checks out _ ones (shown-one (order g)) none none a b (λ p q. p .kept ∙ sym (q .kept)) x y .1
+      answered-one checks out _ ones none none a b (λ p q. p .kept ∙ sym (q .kept)) x y .1
   rows-one (answers.Refused w) a b x y =
-      answered-one (order g) checks out (λ row. row ≡ out) ones (shown-one (order g)) (some (numbered w)) (some (numbered w)) a b (λ p q. p ∙ sym q)
-      (answered-again (order g) checks out _ (λ row. row ≡ out) (numbered w) a x)
-      (answered-again (order g) checks out _ (λ row. row ≡ out) (numbered w) b y)
+      answered-one checks out (λ row. row ≡ out) ones (some (numbered w)) (some (numbered w)) a b (λ p q. p ∙ sym q)
+      (answered-again checks out _ (λ row. row ≡ out) (numbered w) a x)
+      (answered-again checks out _ (λ row. row ≡ out) (numbered w) b y)
       .1
 
   -- any two outcomes that the contract of `first` or `next` allows are equal

@@ -1,18 +1,19 @@
--- Refusals 7, 8 and 9 each say one thing, and which numbers they say.
+-- Refusals 7, 8 and 9 each say one thing, and 7 writes one row.
 use Prim.Native.Nat.{ℕ, _<_}
-use native.Mathlib.Omega.{arith}
 use Rattle.model.specs.Limits as limit
 use Rattle.model.specs.Order.{Order}
-use Rattle.model.specs.Refusals.{CycleOf, Late, cyclic, large-bound, late-bound}
+use Rattle.model.specs.Cycle.{Shown}
+use Rattle.model.specs.Refusals.{Late, cyclic, large-bound, late-bound}
 use Rattle.theory.specs.cycle.OneShown.{shown-one}
 use Rattle.theory.specs.refusals.OneRefusal.{Ones, ones-single, flat-one}
-use Rattle.theory.specs.refusals.FirstRefusal.{Never}
+use Rattle.theory.specs.refusals.RowAfterwards.{fills-one}
 
 -- ---- the checks say one thing each
 pub cyclic-ones : (o : Order) → Ones (cyclic o)
 cyclic-ones o =
-    ones-single (CycleOf o)
+    ones-single _
     (record {
+      once = λ before a b. fills-one (Shown o) before a b (shown-one o);
       same = λ n p m q a b. rw (a .is, b .is, a .long, b .long, shown-one o (a .cycle) (b .cycle) (a .shown) (b .shown));
     })
 
@@ -21,11 +22,3 @@ large-bound-ones bound = ones-single _ (flat-one 8 (limit.steps < bound))
 
 pub late-bound-ones : (o : Order) (bound : ℕ) → Ones (late-bound o bound)
 late-bound-ones o bound = ones-single _ (flat-one 9 (Late o bound))
-
-pub large-bound-never : (bound number : ℕ) → number < 8 → Never number (large-bound bound)
-unfolding Never
-large-bound-never bound number l = (λ p h. omega (arith, h .is), tt)
-
-pub late-bound-never : (o : Order) (bound number : ℕ) → number < 9 → Never number (late-bound o bound)
-unfolding Never
-late-bound-never o bound number l = (λ p h. omega (arith, h .is), tt)

@@ -1,23 +1,22 @@
--- How `First` is put together and taken apart, what each kind of check says, and which numbers are said.
-use mathlib.Core.Path.{_≡_, refl, subst}
+-- How `First` is put together and taken apart, and what each kind of check says.
+use mathlib.Core.Path.{refl}
 use mathlib.Core.Logic.{inl, inr, ⊎-elim}
 use mathlib.Core.Option.{Option, none, some}
 use mathlib.Core.List.{List, [], _∷_, _++_}
-use Prim.Native.Nat.{ℕ, zero, suc, _≤_, _<_}
+use Prim.Native.Nat.{ℕ, zero, suc, _≤_}
 use native.Mathlib.Omega.{arith}
 use borrow.Author.Count.{below-none, below-more}
 use Rattle.maths.specs.Lowest.{None, Lowest}
-use Rattle.model.specs.Graph.{Graph}
-use Rattle.model.specs.Refusals.{Check, Silent, First, Flat, AtLowest, shape, output, unitless}
+use Rattle.model.specs.Refusals.{Check, Silent, First, Flat, AtLowest}
 
 -- ---- put together
 -- a check that says something decides
-pub first-says : (R : Check) (rest : List Check) (n p : ℕ) → R n p → First (R ∷ rest) (some (n, p))
+pub first-says : (R : Check) (rest : List Check) (n p : ℕ) → R .says n p → First (R ∷ rest) (some (n, p))
 unfolding First
 first-says R rest n p h = inl h
 
 -- a check that says nothing leaves it to the rest
-pub first-silent : (R : Check) (rest : List Check) (x : Option (ℕ × ℕ)) → Silent R → First rest x → First (R ∷ rest) x
+pub first-silent : (R : Check) (rest : List Check) (x : Option (ℕ × ℕ)) → Silent (R .says) → First rest x → First (R ∷ rest) x
 unfolding First
 first-silent R rest none s h = (s, h)
 first-silent R rest (some r) s h = inr (s, h)
@@ -47,7 +46,7 @@ first-none-append [] back h = (tt, h)
 first-none-append (R ∷ front) back h = let k = first-none-append front back (h .1) in ((h .0, k .0), k .1)
 
 -- a check may be put in another's place that says the same
-pub first-head : (R S : Check) (rest : List Check) (x : Option (ℕ × ℕ)) → ((n p : ℕ) → R n p → S n p) → ((n p : ℕ) → S n p → R n p)
+pub first-head : (R S : Check) (rest : List Check) (x : Option (ℕ × ℕ)) → ((n p : ℕ) → R .says n p → S .says n p) → ((n p : ℕ) → S .says n p → R .says n p)
     → First (R ∷ rest) x → First (S ∷ rest) x
 unfolding First
 first-head R S rest none there back h = (λ n p s. h .0 n p (back n p s), h .1)
@@ -93,48 +92,3 @@ module _ (P : ℕ → Type 0) (n : ℕ) (no-lowest : (i : ℕ) → Lowest P n i 
 
 pub at-lowest-none : (number among : ℕ) (P : ℕ → Type 0) → Silent (AtLowest number among P) → None P among
 at-lowest-none number among P s = no-lowest-none P among (λ i low. s number i (at-lowest-says number among P i low))
-
--- ---- which numbers are said
--- none of the checks says this number
-unfoldable pub Never : ℕ → List Check → Type 0
-Never number [] = Unit {0}
-Never number (R ∷ rest) = ((place : ℕ) → R number place → ⊥) × Never number rest
-
--- so it is not the number given
-pub first-never : (number : ℕ) (checks : List Check) (r : ℕ × ℕ) → Never number checks → First checks (some r) → r .0 ≡ number → ⊥
-unfolding First Never
-first-never number [] r n h e = h
-first-never number (R ∷ rest) r n h e =
-    ⊎-elim (λ k. n .0 (r .1) (subst (λ (m : ℕ). R m (r .1)) e k)) (λ k. first-never number rest r (n .1) (k .1) e) h
-
--- nor do checks of two such lists
-pub never-append : (number : ℕ) (front back : List Check) → Never number front → Never number back → Never number (front ++ back)
-unfolding Never
-never-append number [] back a b = b
-never-append number (R ∷ front) back a b = (a .0, never-append number front back (a .1) b)
-
--- the rows say their own numbers alone
-pub shape-never : (g : Graph) (Own : Type 0) (number : ℕ) → 4 < number → Never number (shape g Own)
-unfolding Never
-shape-never g Own number l =
-    (λ p h. omega (arith, h .is), (λ p h. omega (arith, h .is), (λ p h. omega (arith, h .is), (λ p h. omega (arith, h .is), tt))))
-
-pub output-never : (g : Graph) (room number : ℕ) → 5 < number → Never number (output g room)
-unfolding Never
-output-never g room number l = (λ p h. omega (arith, h .is), tt)
-
-pub unitless-never : (g : Graph) (units : List ℕ) (number : ℕ) → 6 < number → Never number (unitless g units)
-unfolding Never
-unitless-never g units number l = (λ p h. omega (arith, h .is), tt)
-
--- so the first five say no number above 5, and the first six none above 6
-pub front-never : (g : Graph) (Own : Type 0) (room number : ℕ) → 5 < number → Never number (shape g Own ++ output g room)
-front-never g Own room number l =
-    never-append number (shape g Own) (output g room) (shape-never g Own number (omega arith)) (output-never g room number l)
-
-pub front-unit-never : (g : Graph) (Own : Type 0) (room : ℕ) (units : List ℕ) (number : ℕ) → 6 < number
-    → Never number ((shape g Own ++ output g room) ++ unitless g units)
-front-unit-never g Own room units number l =
-    never-append number (shape g Own ++ output g room) (unitless g units)
-    (front-never g Own room number (omega arith))
-    (unitless-never g units number l)

@@ -1,17 +1,19 @@
 -- The table says one refusal at most: each check says one thing, and the first that says something decides.
-use mathlib.Core.Path.{_≡_, refl, ap}
+use mathlib.Core.Path.{_≡_, refl, sym, ap, _∙_}
 use mathlib.Core.Logic.{⊎-elim}
 use mathlib.Core.Option.{Option, none, some}
 use mathlib.Core.List.{List, [], _∷_, _++_}
 use Prim.Native.Nat.{ℕ, _<_}
 use Rattle.maths.specs.Lowest.{lowest-one}
 use Rattle.model.specs.Graph.{Graph, many, edgesOf}
-use Rattle.model.specs.Refusals.{Check, First, Flat, AtLowest, Large, Uneven, BadOperation, BadEdge, NoUnit, shape, output, unitless}
+use Rattle.model.specs.Refusals.{Check, unwritten, First, Flat, AtLowest, Large, Uneven, BadOperation, BadEdge, NoUnit, shape, output, unitless}
+use Rattle.model.specs.Answers.{Leaves}
 
 -- ---- one answer
--- a check says one thing at most
+-- a check says one thing at most, and leaves one row
 pub record One (R : Check) : Type 0 where
-  pub same : (n p m q : ℕ) → R n p → R m q → _≡_ {A = ℕ × ℕ} (n, p) (m, q)
+  pub same : (n p m q : ℕ) → R .says n p → R .says m q → _≡_ {A = ℕ × ℕ} (n, p) (m, q)
+  pub once : (before a b : List ℕ) → Leaves (R .writes) before a → Leaves (R .writes) before b → a ≡ b
 
 -- each of them does
 unfoldable pub Ones : List Check → Type 0
@@ -36,12 +38,18 @@ first-one (R ∷ rest) o (some r) (some s) a b =
     a
 
 -- number and place are fixed
-pub flat-one : (number : ℕ) (P : Type 0) → One (Flat number P)
-flat-one number P = record { same = λ n p m q a b. rw (a .is, a .nowhere, b .is, b .nowhere) }
+pub flat-one : (number : ℕ) (P : Type 0) → One (unwritten (Flat number P))
+flat-one number P = record {
+  same = λ n p m q a b. rw (a .is, a .nowhere, b .is, b .nowhere);
+  once = λ before a b x y. x ∙ sym y;
+}
 
 -- the number is fixed, and there is one lowest place at most
-pub at-lowest-one : (number among : ℕ) (P : ℕ → Type 0) → One (AtLowest number among P)
-at-lowest-one number among P = record { same = λ n p m q a b. rw (a .is, b .is, lowest-one P among p q (a .lowest) (b .lowest)) }
+pub at-lowest-one : (number among : ℕ) (P : ℕ → Type 0) → One (unwritten (AtLowest number among P))
+at-lowest-one number among P = record {
+  same = λ n p m q a b. rw (a .is, b .is, lowest-one P among p q (a .lowest) (b .lowest));
+  once = λ before a b x y. x ∙ sym y;
+}
 
 -- checks of two lists in one
 pub ones-append : (front back : List Check) → Ones front → Ones back → Ones (front ++ back)

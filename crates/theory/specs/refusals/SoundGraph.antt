@@ -1,6 +1,6 @@
 -- What refusals 1 to 6 leave when they say nothing: a sound graph, room for the answer, and a unit for each type in use.
 use mathlib.Core.Path.{_≡_, refl, sym}
-use mathlib.Core.Logic.{inl, inr}
+use mathlib.Core.Logic.{inl, inr, ⊎-elim}
 use mathlib.Core.Bool.{false}
 use mathlib.Core.Option.{Option, none, some}
 use mathlib.Core.List.{List, [], _++_}
@@ -16,6 +16,7 @@ use Rattle.model.specs.Limits as limit
 use Rattle.model.specs.Order.{Order, Closed, turned}
 use Rattle.model.specs.Graph.{Graph, Sound, order, many, edgesOf, delay, typeOf}
 use Rattle.model.specs.Refusals.{Check, First, Flat, Large, Uneven, BadOperation, BadEdge, NoUnit, shape, output, unitless}
+use Rattle.model.specs.Answers.{LeftBy, RowAfter, Answered}
 use Rattle.theory.specs.refusals.FirstRefusal.{at-lowest-none, at-lowest-says, at-lowest-silent, first-head, first-rest, flat-not, flat-says, flat-silent}
 
 -- ---- what keeps a graph from being refused
@@ -119,6 +120,37 @@ pub shape-own-then : (g : Graph) (P Q : Type 0) → (P → Q) → (Q → P) → 
     → First (shape g P ++ rest) x → First (shape g Q ++ rest) x
 shape-own-then g P Q there back rest x h =
     first-rest _ _ _ x (first-head _ _ _ x (flat-same (uneven-own g there)) (flat-same (uneven-own g back))) h
+
+-- the row is left alike
+left-own : (g : Graph) (P Q : Type 0) → (P → Q) → (Q → P) → (rest : List Check) (r : ℕ × ℕ) (before after : List ℕ)
+    → LeftBy (shape g P ++ rest) r before after → LeftBy (shape g Q ++ rest) r before after
+unfolding LeftBy
+left-own g P Q there back rest r before after h =
+    ⊎-elim
+    (λ k. inl k)
+    (λ k.
+    inr (
+      k .0,
+      ⊎-elim
+          (λ m. inl (flat-same (uneven-own g there) _ _ (m .0), m .1))
+          (λ m. inr (λ n p s. m .0 n p (flat-same (uneven-own g back) n p s), m .1))
+          (k .1),
+    ))
+    h
+
+row-own : (g : Graph) (P Q : Type 0) → (P → Q) → (Q → P) → (rest : List Check) (before : List ℕ) (Given : List ℕ → Type 0) (x : Option (ℕ × ℕ)) (after : List ℕ)
+    → RowAfter (shape g P ++ rest) before Given x after → RowAfter (shape g Q ++ rest) before Given x after
+unfolding RowAfter
+row-own g P Q there back rest before Given none after h = h
+row-own g P Q there back rest before Given (some r) after h = left-own g P Q there back rest r before after h
+
+-- so the whole answer may be said in other words
+pub answered-own : (g : Graph) (P Q : Type 0) → (P → Q) → (Q → P) → (rest : List Check) (before : List ℕ) (Given : List ℕ → Type 0) (x : Option (ℕ × ℕ)) (after : List ℕ)
+    → Answered (shape g P ++ rest) before Given x after → Answered (shape g Q ++ rest) before Given x after
+answered-own g P Q there back rest before Given x after h = record {
+  first = shape-own-then g P Q there back rest x (h .first);
+  row = row-own g P Q there back rest before Given x after (h .row);
+}
 
 -- the same with nothing after it
 pub shape-own : (g : Graph) (P Q : Type 0) → (P → Q) → (Q → P) → (x : Option (ℕ × ℕ)) → First (shape g P) x → First (shape g Q) x

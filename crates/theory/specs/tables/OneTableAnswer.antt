@@ -3,13 +3,12 @@ use mathlib.Core.Path.{_≡_}
 use mathlib.Core.List.{List, _++_}
 use Prim.Native.Nat.{ℕ}
 use lib.ListN.{length}
-use Rattle.model.specs.Order.{Order}
 use Rattle.model.specs.Graph.{Graph, order}
 use Rattle.model.specs.Tables.{Asap, Alap, Mobility}
-use Rattle.model.specs.Refusals.{Check, shape, output, cyclic, large-bound, late-bound, asapChecks, alapChecks}
+use Rattle.model.specs.Refusals.{Check, shape, output, cyclic, large-bound, late-bound}
+use Rattle.model.specs.Checks.{asapChecks, alapChecks}
 use Rattle.model.specs.Answers.{refusalOf, Fills, Answered, AsapAnswer, AlapAnswer, MobilityAnswer}
 use Rattle.model.specs.declared.Answer.{Answer}
-use Rattle.theory.specs.cycle.OneShown.{shown-one}
 use Rattle.theory.specs.tables.OneTable.{asap-one, alap-one, mobility-one}
 use Rattle.theory.specs.refusals.OneRefusal.{Ones, ones-append, front-ones}
 use Rattle.theory.specs.refusals.RefusalNumbers.{refusal-one}
@@ -28,24 +27,24 @@ alap-ones g bound room =
     (ones-append (large-bound bound) (late-bound (order g) bound) (large-bound-ones bound) (late-bound-ones (order g) bound))
 
 -- ---- a question that fills a row with the one row that `Is`
-filled-one : (o : Order) (checks : List Check) (before : List ℕ) (Is : List ℕ → Type 0) → Ones checks → ((s t : List ℕ) → Is s → Is t → s ≡ t)
-    → (r r′ : Answer) (after after′ : List ℕ) → Answered o checks before (Fills Is before) (refusalOf r) after
-    → Answered o checks before (Fills Is before) (refusalOf r′) after′ → (r ≡ r′) × (after ≡ after′)
-filled-one o checks before Is ones one r r′ after after′ h k =
-    let frame = answered-one o checks before (Fills Is before) ones (shown-one o) (refusalOf r) (refusalOf r′) after after′
+filled-one : (checks : List Check) (before : List ℕ) (Is : List ℕ → Type 0) → Ones checks → ((s t : List ℕ) → Is s → Is t → s ≡ t)
+    → (r r′ : Answer) (after after′ : List ℕ) → Answered checks before (Fills Is before) (refusalOf r) after
+    → Answered checks before (Fills Is before) (refusalOf r′) after′ → (r ≡ r′) × (after ≡ after′)
+filled-one checks before Is ones one r r′ after after′ h k =
+    let frame = answered-one checks before (Fills Is before) ones (refusalOf r) (refusalOf r′) after after′
     (fills-one Is before after after′ one) h k in
     (refusal-one r r′ (frame .0), frame .1)
 
 pub asap-answer-one : (g : Graph) (out : List ℕ) (r r′ : Answer) (after after′ : List ℕ) → AsapAnswer g out r after → AsapAnswer g out r′ after′
     → (r ≡ r′) × (after ≡ after′)
-asap-answer-one g out = filled-one (order g) (asapChecks g (length out)) out (Asap g) (asap-ones g (length out)) (asap-one g)
+asap-answer-one g out = filled-one (asapChecks g (length out)) out (Asap g) (asap-ones g (length out)) (asap-one g)
 
 pub alap-answer-one : (g : Graph) (bound : ℕ) (out : List ℕ) (r r′ : Answer) (after after′ : List ℕ) → AlapAnswer g bound out r after
     → AlapAnswer g bound out r′ after′ → (r ≡ r′) × (after ≡ after′)
 alap-answer-one g bound out =
-    filled-one (order g) (alapChecks g bound (length out)) out (Alap g bound) (alap-ones g bound (length out)) (alap-one g bound)
+    filled-one (alapChecks g bound (length out)) out (Alap g bound) (alap-ones g bound (length out)) (alap-one g bound)
 
 pub mobility-answer-one : (g : Graph) (bound : ℕ) (out : List ℕ) (r r′ : Answer) (after after′ : List ℕ) → MobilityAnswer g bound out r after
     → MobilityAnswer g bound out r′ after′ → (r ≡ r′) × (after ≡ after′)
 mobility-answer-one g bound out =
-    filled-one (order g) (alapChecks g bound (length out)) out (Mobility g bound) (alap-ones g bound (length out)) (mobility-one g bound)
+    filled-one (alapChecks g bound (length out)) out (Mobility g bound) (alap-ones g bound (length out)) (mobility-one g bound)

@@ -13,7 +13,8 @@ use Rattle.model.specs.Graph.{Graph, order, many, edgesOf, delay}
 use Rattle.model.specs.Answers.{refusalOf}
 use Rattle.model.specs.Use.{Lawful}
 use Rattle.model.specs.Faults as fault
-use Rattle.model.specs.Verdicts.{refusalInFinding, checkChecks, Finds, Checked, peakChecks, Counts, PeakAnswer}
+use Rattle.model.specs.Verdicts.{refusalInFinding, Finds, Checked, Counts, PeakAnswer}
+use Rattle.model.specs.Checks.{checkChecks, peakChecks}
 use Rattle.model.specs.declared.Finding as finding
 use Rattle.model.specs.declared.Finding.the-variants as found
 use Rattle.model.specs.declared.Verdict.{Verdict}

@@ -6,8 +6,10 @@ use Prim.Native.Nat.{ℕ, _+_, _<_, _≤_}
 use native.Mathlib.Omega.{arith}
 use lib.ListN.{length}
 use denote.Ref.{now, ptr}
-use Rattle.model.specs.Refusals.{First}
-use Rattle.model.specs.Views.{Table, NoChannel, chosen, viewChecks, PartOf, PartAfter, Viewed, numberOr0, ViewRefusal}
+use Rattle.model.specs.Refusals.{First, NoChannel}
+use Rattle.model.specs.Views.{PartOf, PartAfter, Viewed, numberOr0, ViewRefusal}
+use Rattle.model.specs.Channels.{Table, chosen}
+use Rattle.model.specs.Checks.{viewChecks}
 use Rattle.theory.specs.refusals.OneRefusal.{Ones, first-one, flat-one}
 
 -- the channel is one of the two
