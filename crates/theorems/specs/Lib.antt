@@ -1,3 +1,4 @@
+pub mod RefusalsWritten
 pub mod CyclesShown
 pub mod TablesExist
 pub mod OneByOne
