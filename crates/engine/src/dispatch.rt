@@ -4,6 +4,7 @@ ghost use lib.ListN.{length};
 ghost use Rattle.model.specs.Graph.{lent};
 ghost use Rattle.engine.specs.Frame.{longest};
 ghost use Rattle.engine.specs.Dispatch.{GraphReply, GraphAsked, Takes, Answers};
+use crate::kinds::UNKNOWN;
 use crate::questions::advance;
 use crate::questions::alap;
 use crate::questions::asap;
@@ -23,7 +24,6 @@ use crate::rows::number;
 use crate::rows::numbers;
 use crate::rows::read_words;
 use crate::sizes::LONGEST;
-use crate::sizes::UNKNOWN;
 
 // The questions about a graph, whose second number is a bound or a step.
 fn about(

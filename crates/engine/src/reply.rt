@@ -1,8 +1,8 @@
 // What is said to a question: its kind, the answer's numbers, and where the written row lies in the question's bytes.
 ghost use mathlib.Core.Path.{_≡_};
 ghost use Rattle.engine.specs.Replies.{unaskedReply, filledReply, scheduledReply, advancedReply, verdictReply, peaksReply, listedReply, partReply};
+use crate::kinds::ASKED;
 use crate::rows::Row;
-use crate::sizes::ASKED;
 use crate::sizes::NUMBERS;
 use pedal::Advanced;
 use pedal::Filled;

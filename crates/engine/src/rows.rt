@@ -7,9 +7,9 @@ ghost use Rattle.engine.specs.Rows.{NumbersBefore, HeadAfter, BytesAfter
 use crate::bytes::read_eight;
 use crate::bytes::read_four;
 use crate::bytes::word;
+use crate::kinds::MISFIT;
+use crate::kinds::TOO_LONG;
 use crate::sizes::LONGEST;
-use crate::sizes::MISFIT;
-use crate::sizes::TOO_LONG;
 
 // A row's place among the bytes: where its entries begin, how many they are, where the next row begins, and the fault in the
 // framing up to there, 0 if there is none. Where there is a fault the row is empty.

@@ -9,19 +9,21 @@ use crate::bytes::lay_four;
 use crate::bytes::lay_words;
 use crate::bytes::read_four;
 use crate::dispatch::ask;
+use crate::kinds::ASKED;
+use crate::kinds::CUT_OFF;
+use crate::kinds::TOO_LONG;
 use crate::reply::Reply;
 use crate::reply::unasked;
-use crate::sizes::ASKED;
-use crate::sizes::CUT_OFF;
 use crate::sizes::FRAME;
 use crate::sizes::HEAD;
 use crate::sizes::LONGEST;
 use crate::sizes::MOST;
 use crate::sizes::NUMBERS;
-use crate::sizes::TOO_LONG;
-use crate::sizes::TURNS;
 use libc::STDIN_FILENO;
 use libc::STDOUT_FILENO;
+
+// How often the loop over the questions turns at most: more often than any run lasts.
+const TURNS: u64 = 18446744073709551615;
 
 // Writes the first numbers of an answer, eight bytes each, from a place on.
 fn lay_numbers(numbers: [usize; NUMBERS], count: usize, bytes: &mut [u8], at: usize)

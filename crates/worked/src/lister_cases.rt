@@ -9,6 +9,9 @@ const MOST: usize = 1000;
 
 const PRIME: u64 = 1000000007;
 
+// The number of a word among those of `say`.
+const NONE_LEFT: usize = 14;
+
 // Writes what the lister answered, and says whether it was a schedule.
 fn told(answer: Listed, out: &[u16], n: usize) -> bool {
     match answer {
@@ -19,7 +22,7 @@ fn told(answer: Listed, out: &[u16], n: usize) -> bool {
             true
         }
         Listed::NoneLeft => {
-            say::word(say::NONE_LEFT);
+            say::word(NONE_LEFT);
             false
         }
         Listed::Refused(why) => {
@@ -87,9 +90,12 @@ fn apart(n: usize, units: u8, bound: usize) {
     );
 }
 
+// The number of a word among those of `say`.
+const ALL: usize = 5;
+
 // Case 9: two operations and so many units.
 fn ninth(units: u8) {
-    say::case(9, say::ALL);
+    say::case(9, ALL);
     say::mark(b' ');
     say::entry(units as u16);
     apart(2, units, 2);
@@ -97,14 +103,17 @@ fn ninth(units: u8) {
 
 // Case 10: two operations of delay 1, an edge from the first to the second, two units and bound 3.
 fn tenth() {
-    say::case(10, say::ALL);
+    say::case(10, ALL);
     all(&[1u8, 1], &[0u8, 0], &[0u16], &[1u16], 2, 3);
 }
+
+// The number of a word among those of `say`.
+const NEXT: usize = 6;
 
 // Case 10: the schedule after a row.
 fn after(first: u16, second: u16) {
     let mut out = [0u16; 2];
-    say::case(10, say::NEXT);
+    say::case(10, NEXT);
     say::entry(first);
     say::mark(b' ');
     say::entry(second);
@@ -129,7 +138,7 @@ fn after(first: u16, second: u16) {
 
 // Cases 8 to 11.
 pub fn small() {
-    say::case(8, say::ALL);
+    say::case(8, ALL);
     apart(0, 1, 0);
     ninth(1);
     ninth(2);
@@ -137,9 +146,12 @@ pub fn small() {
     after(1, 3);
     after(0, 9);
     after(65535, 65535);
-    say::case(11, say::ALL);
+    say::case(11, ALL);
     apart(3, 1, 2);
 }
+
+// The number of a word among those of `say`.
+const FIRST: usize = 7;
 
 // Case 14: so many operations, and as many units.
 fn fourteenth(n: usize, units: u8) {
@@ -149,7 +161,7 @@ fn fourteenth(n: usize, units: u8) {
     let ones = [1u8; OPERATIONS];
     let zeros = [0u8; OPERATIONS];
     let mut out = [0u16; OPERATIONS];
-    say::case(14, say::FIRST);
+    say::case(14, FIRST);
     say::number(n);
     say::word(say::COLON);
     told(
@@ -249,6 +261,12 @@ fn total(
     Summary { count, sum }
 }
 
+// The number of a word among those of `say`.
+const ELEVEN: usize = 10;
+
+// The number of a word among those of `say`.
+const SCHEDULES: usize = 22;
+
 // The eleven-operation graph at bound 5, units 2 and 2: the number of its schedules, and their checksum.
 pub fn eleven() {
     let listed = total(
@@ -259,13 +277,13 @@ pub fn eleven() {
         &[2u8, 2],
         5,
     );
-    say::word(say::ELEVEN);
-    say::word(say::ALL);
+    say::word(ELEVEN);
+    say::word(ALL);
     say::mark(b' ');
     say::number(5);
     say::word(say::COLON);
     say::number(listed.count);
-    say::word(say::SCHEDULES);
+    say::word(SCHEDULES);
     io::print_decimal(libc::STDOUT_FILENO, listed.sum);
     say::mark(b'\n');
 }

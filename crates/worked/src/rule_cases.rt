@@ -5,12 +5,15 @@ use list_schedule::State;
 use model::Answer;
 use model::Scheduled;
 
+// The number of a word among those of `say`.
+const LATENCY: usize = 12;
+
 // Writes what the list schedule answered: the latency and the row's first n entries, or the refusal.
 fn scheduled(answer: Scheduled, out: &[u16], n: usize) {
     say::word(say::COLON);
     match answer {
         Scheduled::Latency(latency) => {
-            say::word(say::LATENCY);
+            say::word(LATENCY);
             say::number(latency);
             say::word(say::COLON);
             say::row(out, n, b' ');
@@ -20,10 +23,13 @@ fn scheduled(answer: Scheduled, out: &[u16], n: usize) {
     say::mark(b'\n');
 }
 
+// The number of a word among those of `say`.
+const LIST: usize = 3;
+
 // A case of the list schedule.
 fn list(case: usize, delays: &[u8], types: &[u8], units: &[u8]) {
     let mut out = [0u16; eleven::MANY];
-    say::case(case, say::LIST);
+    say::case(case, LIST);
     scheduled(
         list_schedule::list_schedule(
             delays,
@@ -39,18 +45,24 @@ fn list(case: usize, delays: &[u8], types: &[u8], units: &[u8]) {
     );
 }
 
+// The number of a word among those of `say`.
+const STEP: usize = 13;
+
 // Writes a state: its step and its first n starts.
 fn shown(state: State, n: usize) {
     let starts = state.starts;
-    say::word(say::STEP);
+    say::word(STEP);
     say::number(state.step);
     say::word(say::COLON);
     say::row(&starts, n, b' ');
 }
 
+// The number of a word among those of `say`.
+const ADVANCE: usize = 4;
+
 // Case 3: the state after one advance from the fresh one.
 fn advanced() {
-    say::case(3, say::ADVANCE);
+    say::case(3, ADVANCE);
     say::word(say::COLON);
     let after = State::fresh().advance(
         &[1u8; eleven::MANY],

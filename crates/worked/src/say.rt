@@ -9,52 +9,12 @@ const LETTERS: usize = 195;
 const WORDS: [u8; LETTERS] =
     *b" asap| alap | mobility | list| advance| all| next | first | check | peak |eleven|: |latency |step |none left|refused | at |lawful|untimely |broken |over-use at step | type | schedules, checksum |";
 
-// The words' numbers.
-pub const ASAP: usize = 0;
-
-pub const ALAP: usize = 1;
-
-pub const MOBILITY: usize = 2;
-
-pub const LIST: usize = 3;
-
-pub const ADVANCE: usize = 4;
-
-pub const ALL: usize = 5;
-
-pub const NEXT: usize = 6;
-
-pub const FIRST: usize = 7;
-
-pub const CHECK: usize = 8;
-
-pub const PEAK: usize = 9;
-
-pub const ELEVEN: usize = 10;
-
+// Numbers of words that all cases say; the others stand where they are said.
 pub const COLON: usize = 11;
 
-pub const LATENCY: usize = 12;
+const REFUSED: usize = 15;
 
-pub const STEP: usize = 13;
-
-pub const NONE_LEFT: usize = 14;
-
-pub const REFUSED: usize = 15;
-
-pub const AT: usize = 16;
-
-pub const LAWFUL: usize = 17;
-
-pub const UNTIMELY: usize = 18;
-
-pub const BROKEN: usize = 19;
-
-pub const OVER_USE: usize = 20;
-
-pub const TYPE: usize = 21;
-
-pub const SCHEDULES: usize = 22;
+const AT: usize = 16;
 
 // Writes a mark.
 pub fn mark(letter: u8) {

@@ -13,10 +13,13 @@ fn filled(answer: Answer, out: &[u16], n: usize) {
     say::mark(b'\n');
 }
 
+// The number of a word among those of `say`.
+const ASAP: usize = 0;
+
 // Case 1: earliest starts.
 fn asap() {
     let mut out = [0u16; eleven::MANY];
-    say::case(1, say::ASAP);
+    say::case(1, ASAP);
     filled(
         tables::asap(
             &[1u8; eleven::MANY],
@@ -31,10 +34,13 @@ fn asap() {
     );
 }
 
+// The number of a word among those of `say`.
+const ALAP: usize = 1;
+
 // Case 2: latest starts at a bound.
 fn alap(bound: usize) {
     let mut out = [0u16; eleven::MANY];
-    say::case(2, say::ALAP);
+    say::case(2, ALAP);
     say::number(bound);
     filled(
         tables::alap(
@@ -51,10 +57,13 @@ fn alap(bound: usize) {
     );
 }
 
+// The number of a word among those of `say`.
+const MOBILITY: usize = 2;
+
 // Case 2: mobility at a bound.
 fn mobility(bound: usize) {
     let mut out = [0u16; eleven::MANY];
-    say::case(2, say::MOBILITY);
+    say::case(2, MOBILITY);
     say::number(bound);
     filled(
         tables::mobility(
@@ -83,7 +92,7 @@ pub fn eleven() {
 // A case of three operations of delay 1 and three edges: earliest starts, or the cycle.
 fn three(case: usize, from: &[u16], to: &[u16]) {
     let mut out = [0u16; 3];
-    say::case(case, say::ASAP);
+    say::case(case, ASAP);
     filled(
         tables::asap(&[1u8; 3], &[0u8; 3], 1, from, to, &mut out),
         &out,

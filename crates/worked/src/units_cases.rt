@@ -5,11 +5,17 @@ use model::Finding;
 use model::Peaks;
 use model::Verdict;
 
+// The number of a word among those of `say`.
+const OVER_USE: usize = 20;
+
+// The number of a word among those of `say`.
+const TYPE: usize = 21;
+
 // Writes over-use: its step and its type.
 fn over_use(step: usize, kind: usize) {
-    say::word(say::OVER_USE);
+    say::word(OVER_USE);
     say::number(step);
-    say::word(say::TYPE);
+    say::word(TYPE);
     say::number(kind);
 }
 
@@ -19,14 +25,23 @@ fn fault(what: usize, place: usize) {
     say::number(place);
 }
 
+// The number of a word among those of `say`.
+const LAWFUL: usize = 17;
+
+// The number of a word among those of `say`.
+const UNTIMELY: usize = 18;
+
+// The number of a word among those of `say`.
+const BROKEN: usize = 19;
+
 // Writes what the checker found.
 fn verdict(found: Verdict) {
     say::word(say::COLON);
     let finding = found.finding;
     match finding {
-        Finding::Lawful => say::word(say::LAWFUL),
-        Finding::Untimely(operation) => fault(say::UNTIMELY, operation),
-        Finding::Broken(edge) => fault(say::BROKEN, edge),
+        Finding::Lawful => say::word(LAWFUL),
+        Finding::Untimely(operation) => fault(UNTIMELY, operation),
+        Finding::Broken(edge) => fault(BROKEN, edge),
         Finding::OverUse(step, kind) => over_use(step, kind),
         Finding::Refused(why) => say::refusal(why, &[0u16; 0]),
     }
@@ -56,9 +71,12 @@ fn peak(found: Peaks) {
     say::mark(b'\n');
 }
 
+// The number of a word among those of `say`.
+const CHECK: usize = 8;
+
 // Case 12: one operation of delay 2 at start 1, checked at a bound.
 fn one(bound: usize) {
-    say::case(12, say::CHECK);
+    say::case(12, CHECK);
     say::number(bound);
     verdict(checker::check(
         &[2u8],
@@ -74,7 +92,7 @@ fn one(bound: usize) {
 
 // Case 13: two operations of delay 2 on one unit, checked at these starts.
 fn two(first: u16, second: u16) {
-    say::case(13, say::CHECK);
+    say::case(13, CHECK);
     say::entry(first);
     say::mark(b' ');
     say::entry(second);
@@ -90,9 +108,12 @@ fn two(first: u16, second: u16) {
     ));
 }
 
+// The number of a word among those of `say`.
+const PEAK: usize = 9;
+
 // Case 13: the peaks of the two at these starts.
 fn two_peaks(first: u16, second: u16) {
-    say::case(13, say::PEAK);
+    say::case(13, PEAK);
     say::entry(first);
     say::mark(b' ');
     say::entry(second);
