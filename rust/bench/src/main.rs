@@ -15,13 +15,19 @@ use std::io::{self, Write};
 use std::process::ExitCode;
 
 use pedal::face::{self, Way};
+use pedal::MOST_OPERATIONS;
 
 use crate::clock::Clock;
 use crate::report::{Comparison, Report};
 use crate::subject::Subject;
 
 /// The sizes of the graphs.
-const SIZES: [usize; 4] = [8, 16, 32, 64];
+const SIZES: [usize; 4] = [
+    MOST_OPERATIONS / 8,
+    MOST_OPERATIONS / 4,
+    MOST_OPERATIONS / 2,
+    MOST_OPERATIONS,
+];
 
 /// Compares both sides on a question whose answer they give as a value.
 fn compare<T: PartialEq + std::fmt::Debug>(
@@ -40,7 +46,7 @@ fn compare<T: PartialEq + std::fmt::Debug>(
     let (proved, plain) = clock.race(&mut proved, &mut plain);
     Comparison {
         question,
-        operations: subject.delays.len(),
+        operations: subject.sample.operations(),
         graph: subject.name.clone(),
         proved,
         plain,

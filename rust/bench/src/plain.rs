@@ -2,7 +2,7 @@
 
 use std::hint::black_box;
 
-use second::{quick, Finding};
+use second::{quick, Finding, MOST_KINDS};
 
 use crate::proved::sum;
 use crate::subject::Subject;
@@ -31,7 +31,7 @@ pub fn check(subject: &Subject) -> usize {
 }
 
 /// Peak use.
-pub fn peak(subject: &Subject) -> [usize; 4] {
+pub fn peak(subject: &Subject) -> [usize; MOST_KINDS] {
     let subject = black_box(subject);
     quick::peak_use(&subject.graph(), &subject.starts).unwrap_or_default()
 }

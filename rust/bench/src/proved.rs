@@ -3,7 +3,7 @@
 use std::hint::black_box;
 
 use pedal::face::{self, Row, WrittenRow};
-use pedal::Broken;
+use pedal::{Broken, MOST_KINDS};
 
 use crate::subject::Subject;
 
@@ -43,7 +43,7 @@ pub fn check(subject: &Subject) -> usize {
 }
 
 /// Peak use.
-pub fn peak(subject: &Subject) -> [usize; 4] {
+pub fn peak(subject: &Subject) -> [usize; MOST_KINDS] {
     let subject = black_box(subject);
     answered(face::peak(subject.rows(), Row::of(&subject.starts))).peak
 }

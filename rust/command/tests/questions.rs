@@ -3,6 +3,7 @@
 mod common;
 
 use common::{example, run, Run};
+use pedal::{LAST_STEP, LONGEST_DELAY, MOST_KINDS, MOST_OPERATIONS};
 
 /// Two operations of delay 2 on one unit, with a bound and starts.
 fn pair(units: usize, bound: usize, first: usize, second: usize) -> String {
@@ -284,18 +285,21 @@ fn refusals() {
     let text = |delay: usize, units: usize, bound: usize| {
         format!("type mul units {units}\nop v1 mul delay {delay}\nbound {bound}\n")
     };
+    let (long, late) = (usize::from(LONGEST_DELAY) + 1, LAST_STEP + 1);
     assert_eq!(
-        refused(run(&["asap"], &text(17, 1, 4))),
-        "pedal: refusal 3: operation v1: the delay is outside 1 to 16, or its type is not below \
-         1 (delay 17, type 0) (place 0)\n"
+        refused(run(&["asap"], &text(long, 1, 4))),
+        format!(
+            "pedal: refusal 3: operation v1: the delay is outside 1 to {LONGEST_DELAY}, or its \
+             type is not below 1 (delay {long}, type 0) (place 0)\n"
+        )
     );
     assert_eq!(
         refused(run(&["list"], &text(1, 0, 4))),
         "pedal: refusal 6: type mul is in use and has no unit (place 0)\n"
     );
     assert_eq!(
-        refused(run(&["alap"], &text(1, 1, 1025))),
-        "pedal: refusal 8: the bound 1025 is above 1024 (place 0)\n"
+        refused(run(&["alap"], &text(1, 1, late))),
+        format!("pedal: refusal 8: the bound {late} is above {LAST_STEP} (place 0)\n")
     );
     assert_eq!(
         refused(run(&["all"], &text(2, 1, 1))),
@@ -306,15 +310,17 @@ fn refusals() {
 /// Too many operations, types or schedules are refused.
 #[test]
 fn large_graphs_are_refused() {
-    let many: String = (0..65)
+    let many: String = (0..=MOST_OPERATIONS)
         .map(|number| format!("op v{number} mul\n"))
         .collect();
     let said = refused(run(&["asap"], &(many + "type mul units 1\n")));
-    assert!(said.contains("refusal 1: ") && said.contains("operations 65"));
-    let kinds: String = (0..5)
+    let operations = format!("operations {}", MOST_OPERATIONS + 1);
+    assert!(said.contains("refusal 1: ") && said.contains(&operations));
+    let kinds: String = (0..=MOST_KINDS)
         .map(|number| format!("type t{number} units 1\n"))
         .collect();
-    assert!(refused(run(&["list"], &kinds)).contains("types 5"));
+    let types = format!("types {}", MOST_KINDS + 1);
+    assert!(refused(run(&["list"], &kinds)).contains(&types));
     let free: String = (0..20)
         .map(|number| format!("op v{number} mul\n"))
         .collect();

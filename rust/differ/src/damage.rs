@@ -1,8 +1,9 @@
 //! Damaging inputs, so that every refusal is met.
 
-use second::random::Xorshift;
+use pedal::{LAST_STEP, LONGEST_DELAY, MOST_EDGES, MOST_KINDS, MOST_OPERATIONS};
+use samples::{bytes, overwrite, Xorshift};
 
-use crate::make::{bytes, word, words};
+use crate::make::{entries, entry, PAST_LAST_STEP};
 use crate::Input;
 
 /// Does one to three kinds of damage.
@@ -24,9 +25,9 @@ fn damage_once(rng: &mut Xorshift, input: &mut Input) {
         7 => take_units(rng, input),
         8 => close_cycle(rng, input),
         9 => spoil_bound(rng, input),
-        10 => input.bound = rng.below(1101),
+        10 => input.bound = rng.below(PAST_LAST_STEP + 1),
         11 => spoil_state(rng, input),
-        _ => input.kinds = rng.below(7),
+        _ => input.kinds = rng.below(MOST_KINDS + 3),
     }
 }
 
@@ -34,20 +35,21 @@ fn damage_once(rng: &mut Xorshift, input: &mut Input) {
 fn enlarge(rng: &mut Xorshift, input: &mut Input) {
     match rng.below(4) {
         0 => {
-            let count = [rng.between(65, 70), rng.between(71, 400)][rng.below(2)];
-            input.delays = bytes(rng, count, 1, 16);
+            let most = MOST_OPERATIONS * [1, 6][rng.below(2)] + 6;
+            let count = rng.between(MOST_OPERATIONS + 1, most);
+            input.delays = bytes(rng, count, 1, usize::from(LONGEST_DELAY));
             input.types.resize(count, 0);
             input.starts.resize(count, 1);
             input.after.resize(count, 1);
             input.out.resize(count, 9);
         }
         1 => {
-            let count = rng.between(257, 400);
+            let count = rng.between(MOST_EDGES + 1, 2 * MOST_EDGES);
             input.from.resize(count, 0);
             input.to.resize(count, 1);
         }
         2 => {
-            input.kinds = rng.between(5, 6);
+            input.kinds = rng.between(MOST_KINDS + 1, MOST_KINDS + 2);
             input.units.resize(input.kinds, 1);
         }
         _ => input.kinds = usize::MAX - rng.below(2),
@@ -74,24 +76,24 @@ fn mislength(rng: &mut Xorshift, input: &mut Input) {
         5 => stretch(rng, &mut input.starts, 1),
         6 => stretch(rng, &mut input.after, 1),
         _ => {
-            let length = [0, input.delays.len(), 63, 65, 70][rng.below(5)];
-            input.state = words(rng, length, 20);
+            let lengths = [
+                0,
+                input.delays.len(),
+                MOST_OPERATIONS - 1,
+                MOST_OPERATIONS + 1,
+                MOST_OPERATIONS + 6,
+            ];
+            let length = lengths[rng.below(lengths.len())];
+            input.state = entries(rng, length, 20);
         }
     }
 }
 
-/// Overwrites one entry of a row, if it has any.
-fn overwrite<T: Copy>(rng: &mut Xorshift, row: &mut [T], value: T) {
-    let place = rng.below(row.len());
-    if let Some(entry) = row.get_mut(place) {
-        *entry = value;
-    }
-}
-
-/// A delay from 0 to 18 or far too long, or a type that may not be there.
+/// A delay that is none, the longest or too long, or a type that may not be there.
 fn spoil_operation(rng: &mut Xorshift, input: &mut Input) {
-    let delay = [0, 16, 17, 18, 255][rng.below(5)];
-    let kind = [rng.below(7) as u8, 255][rng.below(2)];
+    let long = [LONGEST_DELAY, LONGEST_DELAY + 1, LONGEST_DELAY + 2];
+    let delay = [0, long[rng.below(long.len())], u8::MAX][rng.below(3)];
+    let kind = [rng.below(MOST_KINDS + 3) as u8, u8::MAX][rng.below(2)];
     if rng.once_in(2) {
         overwrite(rng, &mut input.delays, delay);
     } else {
@@ -103,9 +105,9 @@ fn spoil_operation(rng: &mut Xorshift, input: &mut Input) {
 fn spoil_edge(rng: &mut Xorshift, input: &mut Input) {
     let count = input.delays.len();
     let end = match rng.below(3) {
-        0 => count.min(65535) as u16,
+        0 => count.min(usize::from(u16::MAX)) as u16,
         1 => u16::MAX,
-        _ => word(rng, count + 2),
+        _ => entry(rng, count + 2),
     };
     if rng.once_in(2) {
         overwrite(rng, &mut input.from, end);
@@ -134,7 +136,7 @@ fn close_cycle(rng: &mut Xorshift, input: &mut Input) {
     let count = input.delays.len();
     let length = if rng.once_in(4) { 1 } else { rng.between(1, 9) };
     let ring: Vec<u16> = (0..length).map(|_| rng.below(count) as u16).collect();
-    if count > 0 && input.from.len() + length <= 256 {
+    if count > 0 && input.from.len() + length <= MOST_EDGES {
         input.from.extend(&ring);
         input.to.extend(ring[1..].iter().chain(&ring[..1]));
     }
@@ -142,13 +144,13 @@ fn close_cycle(rng: &mut Xorshift, input: &mut Input) {
 
 /// A bound above every bound.
 fn spoil_bound(rng: &mut Xorshift, input: &mut Input) {
-    let bounds = [1025, 1100, 65536, usize::MAX];
+    let bounds = [LAST_STEP + 1, PAST_LAST_STEP, 65536, usize::MAX];
     input.bound = bounds[rng.below(bounds.len())];
 }
 
 /// A step outside of all steps, with an operation unplaced or not.
 fn spoil_state(rng: &mut Xorshift, input: &mut Input) {
-    let steps = [0, 1025, 65535, 65536, usize::MAX];
+    let steps = [0, LAST_STEP + 1, 65535, 65536, usize::MAX];
     input.step = steps[rng.below(steps.len())];
     if rng.once_in(2) {
         overwrite(rng, &mut input.state, 0);

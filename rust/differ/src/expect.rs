@@ -1,6 +1,6 @@
 //! What the second opinion expects of the C face.
 
-use second::{direct, Finding, Refusal, State, MOST_OPERATIONS};
+use second::{direct, Finding, Refusal, State, MOST_KINDS, MOST_OPERATIONS};
 
 use crate::{Answer, Input, Question};
 
@@ -79,7 +79,7 @@ fn check(input: &Input) -> Answer {
 /// Peak use.
 fn peak(input: &Input) -> Answer {
     let peaks = direct::peak_use(&input.graph(), &input.starts);
-    answer(peaks.map(|peaks| peaks.to_vec()), &[0, 0, 0, 0], vec![])
+    answer(peaks.map(|peaks| peaks.to_vec()), &[0; MOST_KINDS], vec![])
 }
 
 /// The lister.

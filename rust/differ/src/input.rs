@@ -58,6 +58,20 @@ impl Input {
     }
 }
 
+impl From<samples::Graph> for Input {
+    /// An input with a graph, and nothing else yet.
+    fn from(graph: samples::Graph) -> Input {
+        Input {
+            delays: graph.delays,
+            types: graph.types,
+            kinds: graph.kinds,
+            from: graph.from,
+            to: graph.to,
+            ..Input::default()
+        }
+    }
+}
+
 impl fmt::Display for Input {
     /// The input as Rust literals.
     fn fmt(&self, f: &mut fmt::Formatter<'_>) -> fmt::Result {

@@ -18,7 +18,7 @@ pub use answer::Answer;
 pub use ask::ask;
 pub use expect::expect;
 pub use input::Input;
-pub use make::{generator, make};
+pub use make::make;
 pub use question::{Question, QUESTIONS};
 pub use tally::Tally;
 

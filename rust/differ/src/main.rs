@@ -6,9 +6,10 @@ use std::io::{self, Write};
 use std::process::ExitCode;
 use std::time::{Duration, Instant, SystemTime, UNIX_EPOCH};
 
-use differ::{compare, generator, make, Difference, Input, Stop, Tally};
+use differ::{compare, make, Difference, Input, Stop, Tally};
 use pedal::face::{self, Way};
 use pedal::Broken;
+use samples::Xorshift;
 
 /// What the command line says.
 struct Options {
@@ -82,7 +83,7 @@ impl Options {
 
 /// Tries inputs until one of the ends, and says how many were tried.
 fn run(options: &Options, begin: Instant, tally: &mut Tally) -> (usize, End) {
-    let mut rng = generator(options.seed);
+    let mut rng = Xorshift::spread(options.seed);
     for tried in 0..options.inputs {
         if options.is_late(begin) {
             return (tried, End::Late);

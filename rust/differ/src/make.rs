@@ -1,19 +1,18 @@
 //! Making random inputs.
 
-use second::direct;
-use second::random::Xorshift;
-use second::{Graph, State, LAST_STEP, MOST_OPERATIONS, MOST_ROWS};
+use pedal::{LAST_STEP, LONGEST_DELAY, MOST_EDGES, MOST_KINDS, MOST_OPERATIONS, MOST_ROWS};
+use samples::{bytes, overwrite, Size, Xorshift};
+use second::{direct, Graph, State};
 
 use crate::damage::damage;
 use crate::Input;
 
-/// A generator from any seed, with the seed's bits well spread.
-pub fn generator(seed: u64) -> Xorshift {
-    let mut mixed = seed.wrapping_add(0x9E37_79B9_7F4A_7C15);
-    mixed = (mixed ^ (mixed >> 30)).wrapping_mul(0xBF58_476D_1CE4_E5B9);
-    mixed = (mixed ^ (mixed >> 27)).wrapping_mul(0x94D0_49BB_1331_11EB);
-    Xorshift::new(mixed ^ (mixed >> 31))
-}
+/// A bound, and a start, not far past the last step.
+pub(crate) const PAST_LAST_STEP: usize = LAST_STEP + 76;
+/// How far above the least bound the lister mostly refuses.
+const FAR: usize = 300;
+/// Units for all operations of a border case.
+const PLENTY: u8 = 20;
 
 /// Makes an input, good or damaged.
 pub fn make(rng: &mut Xorshift) -> Input {
@@ -32,13 +31,14 @@ pub fn make(rng: &mut Xorshift) -> Input {
 
 /// An input that is well formed, with now and then a cycle.
 fn good(rng: &mut Xorshift) -> Input {
-    let mut input = Input {
-        kinds: rng.between(1, 4),
-        null: rng.once_in(2),
-        ..Input::default()
+    let size = Size {
+        operations: operations(rng),
+        longest_delay: longest_delay(rng),
+        kinds: rng.between(1, MOST_KINDS),
+        edges: MOST_EDGES,
     };
-    fill_operations(rng, &mut input);
-    fill_edges(rng, &mut input);
+    let mut input = Input::from(samples::Graph::random(rng, size));
+    input.null = rng.once_in(2);
     fill_units(rng, &mut input);
     fill_bound(rng, &mut input);
     fill_rows(rng, &mut input);
@@ -49,14 +49,14 @@ fn good(rng: &mut Xorshift) -> Input {
 /// Independent operations with units for all, whose windows hold about as many rows as the
 /// lister takes on.
 fn border(rng: &mut Xorshift) -> Input {
-    let sizes = [(2, 1000), (3, 100), (6, 10), (19, 2), (20, 2)];
-    let (count, bound) = sizes[rng.below(sizes.len())];
+    let counts = [2, 3, 6, 19, usize::from(PLENTY)];
+    let count = counts[rng.below(counts.len())];
     let mut input = Input {
         delays: vec![1; count],
         types: vec![0; count],
         kinds: 1,
-        units: vec![20],
-        bound: bound + rng.below(2),
+        units: vec![PLENTY],
+        bound: root(count as u32) + rng.below(2),
         ..Input::default()
     };
     fill_rows(rng, &mut input);
@@ -64,29 +64,33 @@ fn border(rng: &mut Xorshift) -> Input {
     input
 }
 
-/// A row of numbers from `low` to `high`.
-pub(crate) fn bytes(rng: &mut Xorshift, length: usize, low: usize, high: usize) -> Vec<u8> {
-    (0..length).map(|_| rng.between(low, high) as u8).collect()
+/// The most starts that each of some operations can have before the lister refuses.
+fn root(count: u32) -> usize {
+    let fits = |&side: &usize| {
+        let rows = side.checked_pow(count);
+        rows.is_some_and(|rows| rows <= MOST_ROWS)
+    };
+    (1..=LAST_STEP).take_while(fits).last().unwrap_or(0)
 }
 
-/// A number of 16 bits: often small, now and then the least or the greatest.
-pub(crate) fn word(rng: &mut Xorshift, small: usize) -> u16 {
+/// A start: often small, now and then the least, the greatest, or near the last step.
+pub(crate) fn entry(rng: &mut Xorshift, small: usize) -> u16 {
     match rng.below(8) {
         0 => 0,
         1 => u16::MAX,
         2 => rng.bits() as u16,
-        3 => rng.between(1000, 1100) as u16,
+        3 => rng.between(LAST_STEP - 24, PAST_LAST_STEP) as u16,
         _ => rng.below(small + 1) as u16,
     }
 }
 
 /// A row of such numbers.
-pub(crate) fn words(rng: &mut Xorshift, length: usize, small: usize) -> Vec<u16> {
-    (0..length).map(|_| word(rng, small)).collect()
+pub(crate) fn entries(rng: &mut Xorshift, length: usize, small: usize) -> Vec<u16> {
+    (0..length).map(|_| entry(rng, small)).collect()
 }
 
 /// The number of operations: mostly few.
-fn size(rng: &mut Xorshift) -> usize {
+fn operations(rng: &mut Xorshift) -> usize {
     match rng.below(1000) {
         0..=399 => rng.between(0, 4),
         400..=799 => rng.between(5, 9),
@@ -95,76 +99,11 @@ fn size(rng: &mut Xorshift) -> usize {
     }
 }
 
-/// Delays and types.
-fn fill_operations(rng: &mut Xorshift, input: &mut Input) {
-    let count = size(rng);
-    let longest = if rng.once_in(4) {
-        16
-    } else {
-        rng.between(1, 3)
-    };
-    input.delays = bytes(rng, count, 1, longest);
-    input.types = bytes(rng, count, 0, input.kinds - 1);
-}
-
-/// The numbers below a limit in random order.
-fn shuffled(rng: &mut Xorshift, count: usize) -> Vec<u16> {
-    let mut numbers: Vec<u16> = (0..count as u16).collect();
-    for place in (1..count).rev() {
-        numbers.swap(place, rng.below(place + 1));
-    }
-    numbers
-}
-
-/// Edges that go forward in some order of the operations.
-fn fill_edges(rng: &mut Xorshift, input: &mut Input) {
-    let count = input.delays.len();
-    let order = if rng.once_in(2) {
-        (0..count as u16).collect()
-    } else {
-        shuffled(rng, count)
-    };
-    if rng.once_in(3) {
-        chain(rng, input, &order);
-    }
-    for _ in 0..rng.below(2 * count + 1) {
-        let (i, j) = (rng.below(count), rng.below(count));
-        join(rng, input, &order, i.min(j), i.max(j));
-    }
-    if rng.once_in(12) {
-        backward(rng, input, &order);
-    }
-}
-
-/// An edge between two places of an order, if they differ; now and then it comes twice.
-fn join(rng: &mut Xorshift, input: &mut Input, order: &[u16], i: usize, j: usize) {
-    let times = if rng.once_in(12) { 2 } else { 1 };
-    for _ in 0..times {
-        if i != j && input.from.len() < 256 {
-            input.from.push(order[i]);
-            input.to.push(order[j]);
-        }
-    }
-}
-
-/// Edges between most neighbours of an order, so that little freedom is left.
-fn chain(rng: &mut Xorshift, input: &mut Input, order: &[u16]) {
-    for place in 1..order.len() {
-        if !rng.once_in(8) {
-            join(rng, input, order, place - 1, place);
-        }
-    }
-}
-
-/// An edge or two that may close a cycle, or go from an operation to itself.
-fn backward(rng: &mut Xorshift, input: &mut Input, order: &[u16]) {
-    let count = order.len();
-    for _ in 0..rng.between(1, 2) {
-        if count > 0 && input.from.len() < 256 {
-            let (i, j) = (rng.below(count), rng.below(count));
-            input.from.push(order[i.max(j)]);
-            input.to.push(order[i.min(j)]);
-        }
+/// The longest delay: mostly short.
+fn longest_delay(rng: &mut Xorshift) -> usize {
+    match rng.below(4) {
+        0 => usize::from(LONGEST_DELAY),
+        _ => rng.between(1, 3),
     }
 }
 
@@ -172,7 +111,7 @@ fn backward(rng: &mut Xorshift, input: &mut Input, order: &[u16]) {
 fn fill_units(rng: &mut Xorshift, input: &mut Input) {
     let most = match rng.below(6) {
         0 => input.delays.len().max(1),
-        1 => 255,
+        1 => usize::from(u8::MAX),
         _ => rng.between(1, 3),
     };
     input.units = bytes(rng, input.kinds, 1, most);
@@ -198,7 +137,7 @@ fn fill_bound(rng: &mut Xorshift, input: &mut Input) {
     input.bound = match rng.below(40) {
         0 => least.saturating_sub(1),
         1 => rng.below(least + 1),
-        2 => rng.below(1100),
+        2 => rng.below(PAST_LAST_STEP),
         3 => LAST_STEP,
         _ => least + rng.below(4),
     };
@@ -209,14 +148,14 @@ fn fill_rows(rng: &mut Xorshift, input: &mut Input) {
     input.starts = schedule(rng, input);
     input.after = schedule(rng, input);
     let room = input.delays.len() + if rng.once_in(3) { rng.below(5) } else { 0 };
-    input.out = words(rng, room, 20);
+    input.out = entries(rng, room, 20);
 }
 
 /// A row of starts: a schedule of some kind, a neighbour of one, or any row.
 fn schedule(rng: &mut Xorshift, input: &Input) -> Vec<u16> {
     let count = input.delays.len();
     let mut row = match rng.below(6) {
-        0 => words(rng, count, input.bound.min(2000) + 2),
+        0 => entries(rng, count, input.bound.min(2 * LAST_STEP) + 2),
         1 => vec![rng.below(3) as u16; count],
         2 => some_first(input).unwrap_or_default(),
         3 => earliest(&input.graph()).unwrap_or_default(),
@@ -225,11 +164,8 @@ fn schedule(rng: &mut Xorshift, input: &Input) -> Vec<u16> {
     };
     row.resize(count, 1);
     if rng.once_in(4) {
-        let place = rng.below(count);
-        let other = word(rng, input.bound.min(2000) + 1);
-        if let Some(entry) = row.get_mut(place) {
-            *entry = other;
-        }
+        let other = entry(rng, input.bound.min(2 * LAST_STEP) + 1);
+        overwrite(rng, &mut row, other);
     }
     row
 }
@@ -275,11 +211,12 @@ fn fill_state(rng: &mut Xorshift, input: &mut Input) {
         1 => {
             state.step = rng.between(1, 40);
             for start in &mut state.starts {
-                *start = word(rng, 40);
+                *start = entry(rng, 40);
             }
         }
         _ => {
-            let steps = [0, 1, 2, 1023, 1024, 1025, 65536, usize::MAX];
+            let last = [LAST_STEP - 1, LAST_STEP, LAST_STEP + 1];
+            let steps = [&last[..], &[0, 1, 2, 65536, usize::MAX]].concat();
             state.step = steps[rng.below(steps.len())];
             scatter(rng, &mut state);
         }
@@ -304,8 +241,8 @@ fn scatter(rng: &mut Xorshift, state: &mut State) {
 /// Two tables and a part of one, which may lie outside.
 fn fill_views(rng: &mut Xorshift, input: &mut Input) {
     let lengths = (rng.below(20), rng.below(20));
-    input.a = words(rng, lengths.0, 20);
-    input.b = words(rng, lengths.1, 20);
+    input.a = entries(rng, lengths.0, 20);
+    input.b = entries(rng, lengths.1, 20);
     input.channel = match rng.below(8) {
         0 => [2, 3, usize::MAX][rng.below(3)],
         _ => rng.below(2),
@@ -342,7 +279,7 @@ fn patience(input: &Input) -> usize {
 
 /// Whether the second opinion would try too many rows: neither few nor past the lister's limit.
 fn is_slow(input: &Input) -> bool {
-    let loose = input.from.is_empty() && input.units.iter().all(|&units| units >= 20);
+    let loose = input.from.is_empty() && input.units.iter().all(|&units| units >= PLENTY);
     let rows = freedom(input, input.bound);
     !loose && rows.is_some_and(|rows| rows > patience(input) && rows <= MOST_ROWS)
 }
@@ -356,8 +293,8 @@ fn settle_bound(rng: &mut Xorshift, input: &mut Input) {
     let starts = earliest(&input.graph()).unwrap_or_default();
     let least = latency(&input.graph(), &starts);
     let bounds = match rng.below(2) {
-        0 => [least, least + 300, least.saturating_sub(1), 1025],
-        _ => [least + 300, least, LAST_STEP, 1025],
+        0 => [least, least + FAR, least.saturating_sub(1), LAST_STEP + 1],
+        _ => [least + FAR, least, LAST_STEP, LAST_STEP + 1],
     };
     for bound in bounds {
         input.bound = bound;

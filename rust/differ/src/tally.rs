@@ -2,10 +2,10 @@
 
 use std::fmt;
 
+use pedal::LAST_REFUSAL;
+
 use crate::{Answer, Input, Question, QUESTIONS};
 
-/// The largest number of a refusal.
-const LAST_REFUSAL: usize = 13;
 /// The most ways in which a question is answered.
 const MOST_ANSWERS: usize = 4;
 

@@ -2,7 +2,8 @@
 
 use std::process::{Command, Output};
 
-use differ::{ask, compare, expect, generator, make, Answer, Input, Question, Tally, QUESTIONS};
+use differ::{ask, compare, expect, make, Answer, Input, Question, Tally, QUESTIONS};
+use samples::Xorshift;
 
 /// Runs the command.
 fn differ(words: &[&str]) -> Output {
@@ -18,7 +19,7 @@ fn printed(output: &Output) -> String {
 /// Both sides agree, and every answer and refusal of every question is met.
 #[test]
 fn every_answer_is_met() {
-    let mut rng = generator(2024);
+    let mut rng = Xorshift::spread(2024);
     let mut tally = Tally::default();
     for _ in 0..4000 {
         let input = make(&mut rng);
@@ -30,11 +31,22 @@ fn every_answer_is_met() {
     assert_eq!(tally.total(), 4000 * QUESTIONS.len());
 }
 
+/// Both sides were written for the same limits.
+#[test]
+fn limits() {
+    assert_eq!(pedal::MOST_OPERATIONS, second::MOST_OPERATIONS);
+    assert_eq!(pedal::MOST_EDGES, second::MOST_EDGES);
+    assert_eq!(pedal::MOST_KINDS, second::MOST_KINDS);
+    assert_eq!(pedal::LONGEST_DELAY, second::LONGEST_DELAY);
+    assert_eq!(pedal::LAST_STEP, second::LAST_STEP);
+    assert_eq!(pedal::MOST_ROWS, second::MOST_ROWS);
+}
+
 /// The same seed gives the same inputs, and another seed others.
 #[test]
 fn seeds() {
     let inputs = |seed: u64| -> Vec<Input> {
-        let mut rng = generator(seed);
+        let mut rng = Xorshift::spread(seed);
         (0..20).map(|_| make(&mut rng)).collect()
     };
     assert_eq!(inputs(5), inputs(5));
@@ -72,7 +84,7 @@ fn every_part_counts() {
 /// An input is shown as Rust literals, with all its parts.
 #[test]
 fn literals() {
-    let shown = make(&mut generator(1)).to_string();
+    let shown = make(&mut Xorshift::spread(1)).to_string();
     assert!(shown.starts_with("let input = Input {\n    delays: vec!["));
     assert!(shown.ends_with("\n};"));
     assert_eq!(shown.lines().count(), 20);

@@ -40,6 +40,7 @@ mod broken;
 mod builder;
 mod error;
 mod graph;
+mod limits;
 mod process;
 #[cfg(test)]
 mod process_tests;
@@ -56,19 +57,11 @@ pub use broken::Broken;
 pub use builder::{GraphBuilder, NameError};
 pub use error::Error;
 pub use graph::Graph;
+pub use limits::{
+    LAST_REFUSAL, LAST_STEP, LONGEST_DELAY, MOST_EDGES, MOST_KINDS, MOST_OPERATIONS, MOST_ROWS,
+};
 pub use questions::{Finding, Schedule};
 pub use refusal::Refusal;
 pub use schedules::Schedules;
 pub use state::State;
 pub use view::view;
-
-/// The most operations of a graph, and the starts of a state.
-pub const MOST_OPERATIONS: usize = ffi::PEDAL_OPERATIONS;
-/// The most edges of a graph.
-pub const MOST_EDGES: usize = 256;
-/// The most types of a graph.
-pub const MOST_KINDS: usize = ffi::PEDAL_KINDS;
-/// The longest delay of an operation; the shortest is 1.
-pub const LONGEST_DELAY: u8 = 16;
-/// The largest latency bound, and the last step at which a state can be advanced.
-pub const LAST_STEP: usize = 1024;

@@ -1,8 +1,9 @@
 //! The questions about a graph, each handed on to the proved library.
 
 use crate::face::{self, Row, WrittenRow};
+use crate::limits::MOST_KINDS;
 use crate::refusal::Lent;
-use crate::{ffi, Error, Graph, Schedules, MOST_KINDS};
+use crate::{ffi, Error, Graph, Schedules};
 
 /// A list schedule.
 #[derive(Clone, Debug, PartialEq, Eq)]

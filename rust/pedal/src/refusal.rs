@@ -2,12 +2,13 @@
 
 use std::fmt;
 
-use crate::{Error, Graph, LAST_STEP, LONGEST_DELAY, MOST_EDGES, MOST_KINDS, MOST_OPERATIONS};
+use crate::limits::{LAST_STEP, LONGEST_DELAY, MOST_EDGES, MOST_KINDS, MOST_OPERATIONS, MOST_ROWS};
+use crate::{Error, Graph};
 
 /// A question turned down: the number and place that the library gives, and the reason in words.
 #[derive(Clone, Debug, PartialEq, Eq)]
 pub struct Refusal {
-    /// The number of the check that failed, 1 to 13.
+    /// The number of the check that failed, 1 to [`LAST_REFUSAL`](crate::LAST_REFUSAL).
     pub number: usize,
     /// The operation, edge, type or cycle length at fault; 0 where there is nothing to say.
     pub place: usize,
@@ -120,9 +121,10 @@ impl Graph {
             5 => "the output row is shorter than the number of operations".to_string(),
             6 => format!("type {} is in use and has no unit", self.kind_name(place)),
             8 => format!("the bound {} is above {LAST_STEP}", lent.bound),
-            10 => "the product of (mobility + 1) over all operations exceeds 1000000; a lower \
-                   bound leaves fewer schedules"
-                .to_string(),
+            10 => format!(
+                "the product of (mobility + 1) over all operations exceeds {MOST_ROWS}; a lower \
+                 bound leaves fewer schedules"
+            ),
             11 => format!(
                 "the state has an operation unplaced and its step {} is outside 1 to {LAST_STEP}",
                 lent.step

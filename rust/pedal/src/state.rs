@@ -1,8 +1,9 @@
 //! The list schedule, watched step by step.
 
 use crate::face::{self, Row, WrittenRow};
+use crate::limits::MOST_OPERATIONS;
 use crate::refusal::Lent;
-use crate::{Error, Graph, MOST_OPERATIONS};
+use crate::{Error, Graph};
 
 /// A list schedule in the making.
 #[derive(Clone, Copy, Debug, PartialEq, Eq)]

@@ -1,5 +1,6 @@
 //! The scope paper's cases and refusals through the safe face.
 
+use crate::limits::{LAST_STEP, LONGEST_DELAY, MOST_EDGES, MOST_KINDS, MOST_OPERATIONS, MOST_ROWS};
 use crate::{view, Broken, Error, Finding, Graph, GraphBuilder, NameError, Refusal, State};
 
 /// The edges of the eleven-operation graph, by the numbers in the operations' names.
@@ -82,7 +83,7 @@ fn list_schedule() {
     let mut state = State::fresh().advance(&graph, &[2, 2]).unwrap();
     assert_eq!(state.step, 2);
     assert_eq!(state.starts[..11], [1, 1, 0, 0, 0, 0, 0, 0, 0, 1, 0]);
-    for _ in 1..1024 {
+    for _ in 1..LAST_STEP {
         state = state.advance(&graph, &[2, 2]).unwrap();
     }
     assert_eq!(state.starts[..11], schedule.starts);
@@ -134,6 +135,11 @@ fn listing_ends_once() {
     assert_eq!(schedules.next(), None);
 }
 
+/// The peaks of a graph that uses its first type alone.
+fn peaks(first: usize) -> [usize; MOST_KINDS] {
+    std::array::from_fn(|kind| if kind == 0 { first } else { 0 })
+}
+
 /// Cases 12 and 13: every finding, and peak use.
 #[test]
 fn findings() {
@@ -145,8 +151,8 @@ fn findings() {
     let over_use = Finding::OverUse { step: 2, kind: 0 };
     assert_eq!(pair.check(&[1], 4, &[1, 2]), Ok(over_use));
     assert_eq!(pair.check(&[1], 4, &[1, 3]), Ok(Finding::Lawful));
-    assert_eq!(pair.peak(&[1, 2]), Ok([2, 0, 0, 0]));
-    assert_eq!(pair.peak(&[1, 3]), Ok([1, 0, 0, 0]));
+    assert_eq!(pair.peak(&[1, 2]), Ok(peaks(2)));
+    assert_eq!(pair.peak(&[1, 3]), Ok(peaks(1)));
     let chain = uniform(2, 2, &[(0, 1)]);
     let broken = Finding::Broken { edge: 0 };
     assert_eq!(chain.check(&[2], 4, &[1, 2]), Ok(broken));
@@ -177,22 +183,26 @@ fn views() {
 /// Refusals 1 to 4 in words, by numbers.
 #[test]
 fn form_in_words() {
-    let large = uniform(65, 1, &[]);
+    let many = MOST_OPERATIONS + 1;
     assert_eq!(
-        said(large.asap()),
-        "refusal 1: more than 64 operations, 256 edges or 4 types: operations 65, edges 0, \
-         types 1"
+        said(uniform(many, 1, &[]).asap()),
+        format!(
+            "refusal 1: more than {MOST_OPERATIONS} operations, {MOST_EDGES} edges or \
+             {MOST_KINDS} types: operations {many}, edges 0, types 1"
+        )
     );
     let uneven = Graph::new([1, 1], [0], 1, [], []);
     assert_eq!(
         said(uneven.asap()),
         "refusal 2: rows that must match differ in length: types 1, delays 2"
     );
-    let slow = Graph::new([1, 17], [0, 0], 2, [], []);
+    let long = LONGEST_DELAY + 1;
     assert_eq!(
-        said(slow.asap()),
-        "refusal 3: operation 1: the delay is outside 1 to 16, or its type is not below 2 (delay \
-         17, type 0)"
+        said(Graph::new([1, long], [0, 0], 2, [], []).asap()),
+        format!(
+            "refusal 3: operation 1: the delay is outside 1 to {LONGEST_DELAY}, or its type is \
+             not below 2 (delay {long}, type 0)"
+        )
     );
     let loose = uniform(2, 1, &[(0, 1), (1, 2)]);
     assert_eq!(
@@ -242,8 +252,10 @@ fn names_in_words() {
     builder.operation("v4", "alu", 0).unwrap();
     assert_eq!(
         said(builder.build().asap()),
-        "refusal 3: operation v4: the delay is outside 1 to 16, or its type is not below 2 \
-         (delay 0, type 1)"
+        format!(
+            "refusal 3: operation v4: the delay is outside 1 to {LONGEST_DELAY}, or its type is \
+             not below 2 (delay 0, type 1)"
+        )
     );
 }
 
@@ -251,9 +263,10 @@ fn names_in_words() {
 #[test]
 fn bounds_in_words() {
     let graph = eleven();
+    let late = LAST_STEP + 1;
     assert_eq!(
-        said(graph.alap(1025)),
-        "refusal 8: the bound 1025 is above 1024"
+        said(graph.alap(late)),
+        format!("refusal 8: the bound {late} is above {LAST_STEP}")
     );
     assert_eq!(
         said(graph.mobility(3)),
@@ -261,14 +274,19 @@ fn bounds_in_words() {
     );
     assert_eq!(
         said(graph.schedules(&[2, 2], 40)),
-        "refusal 10: the product of (mobility + 1) over all operations exceeds 1000000; a lower \
-         bound leaves fewer schedules"
+        format!(
+            "refusal 10: the product of (mobility + 1) over all operations exceeds {MOST_ROWS}; a \
+             lower bound leaves fewer schedules"
+        )
     );
     let mut state = State::fresh();
     state.step = 0;
     assert_eq!(
         said(state.advance(&graph, &[2, 2])),
-        "refusal 11: the state has an operation unplaced and its step 0 is outside 1 to 1024"
+        format!(
+            "refusal 11: the state has an operation unplaced and its step 0 is outside 1 to \
+             {LAST_STEP}"
+        )
     );
 }
 

@@ -6,8 +6,8 @@
 
 use std::cmp::Reverse;
 
+use crate::limits::{LAST_STEP, LONGEST_DELAY, MOST_EDGES, MOST_KINDS, MOST_OPERATIONS, MOST_ROWS};
 pub use crate::{Finding, Graph, Refusal, State};
-use crate::{LAST_STEP, LONGEST_DELAY, MOST_EDGES, MOST_KINDS, MOST_OPERATIONS, MOST_ROWS};
 
 // ---------------------------------------------------------------------------------------
 // The questions
@@ -154,7 +154,7 @@ fn check_lengths(graph: &Graph, lengths: &[(usize, usize)]) -> Result<(), Refusa
     refuse_at(2, differ.then_some(0))
 }
 
-/// Check 3: a delay outside 1 to 16, or a type not below the number of types.
+/// Check 3: a delay outside 1 to the longest, or a type not below the number of types.
 fn check_operations(graph: &Graph) -> Result<(), Refusal> {
     let at_fault = |&operation: &usize| {
         let delay = graph.delays[operation];

@@ -1,6 +1,7 @@
 //! The scope paper's cases, and its refusals in their order.
 
 use second::{direct, Finding, Graph, Refusal, State};
+use second::{LAST_STEP, LONGEST_DELAY, MOST_EDGES, MOST_OPERATIONS};
 use std::process::Command;
 
 /// The lines that the program of cases has to print.
@@ -60,7 +61,7 @@ impl Faulty {
     /// Makes an input of three operations in which the faults below a number are mended.
     fn from_number(number: usize) -> Faulty {
         let mut input = Faulty {
-            delays: vec![1, 2, if number <= 3 { 17 } else { 3 }],
+            delays: vec![1, 2, if number <= 3 { LONGEST_DELAY + 1 } else { 3 }],
             types: vec![0, 1, 1],
             from: vec![0, 1, if number <= 7 { 1 } else { 0 }],
             to: vec![1, if number <= 4 { 3 } else { 2 }, 0],
@@ -68,8 +69,8 @@ impl Faulty {
             bound: bound_for(number),
             room: if number <= 5 { 2 } else { 5 },
             state: State {
-                step: if number <= 11 { 1025 } else { 1024 },
-                starts: [0; 64],
+                step: LAST_STEP + usize::from(number <= 11),
+                starts: [0; MOST_OPERATIONS],
             },
         };
         if number > 7 {
@@ -80,7 +81,7 @@ impl Faulty {
             input.types.push(0);
         }
         if number <= 1 {
-            input.from = vec![0; 257];
+            input.from = vec![0; MOST_EDGES + 1];
         }
         input
     }
@@ -105,9 +106,9 @@ impl Faulty {
 /// A bound at fault by check 8, 9 or 10, or by none.
 fn bound_for(number: usize) -> usize {
     match number {
-        0..=8 => 1025,
+        0..=8 => LAST_STEP + 1,
         9 => 5,
-        10 => 1024,
+        10 => LAST_STEP,
         _ => 8,
     }
 }
@@ -247,16 +248,16 @@ fn rows_lent_beside_the_graph_must_match() {
 fn advance_leaves_what_is_not_its_own() {
     let input = Faulty::from_number(12);
     let mut state = input.state;
-    state.starts = [9; 64];
-    for step in [0, 1, 7, 1025, usize::MAX] {
+    state.starts = [9; MOST_OPERATIONS];
+    for step in [0, 1, 7, LAST_STEP + 1, usize::MAX] {
         state.step = step;
         let answer = direct::advance(state, &input.graph(), &input.units);
         assert_eq!(answer, (Ok(()), state));
     }
-    (state.step, state.starts[0]) = (1024, 0);
+    (state.step, state.starts[0]) = (LAST_STEP, 0);
     let (answer, onward) = direct::advance(state, &input.graph(), &input.units);
-    assert_eq!((answer, onward.step), (Ok(()), 1025));
-    assert_eq!(onward.starts[0], 1024);
+    assert_eq!((answer, onward.step), (Ok(()), LAST_STEP + 1));
+    assert_eq!(usize::from(onward.starts[0]), LAST_STEP);
     assert_eq!(onward.starts[1..], state.starts[1..]);
 }
 
@@ -264,7 +265,7 @@ fn advance_leaves_what_is_not_its_own() {
 #[test]
 fn peak_use_takes_any_starts() {
     let graph = Graph {
-        delays: &[2, 1, 16, 16],
+        delays: &[2, 1, LONGEST_DELAY, LONGEST_DELAY],
         types: &[0, 0, 2, 2],
         kinds: 3,
         from: &[],

@@ -1,8 +1,9 @@
 //! Random trials: the quick answers against the direct ones, and the direct ones against the
 //! scope paper's definitions.
 
-use second::random::Xorshift;
-use second::{direct, quick, Finding, Graph, State, MOST_OPERATIONS};
+use samples::{bytes, overwrite, words, Size, Xorshift};
+use second::{direct, quick, Finding, Graph, State};
+use second::{LAST_STEP, LONGEST_DELAY, MOST_EDGES, MOST_KINDS, MOST_OPERATIONS};
 
 /// What an output row holds before a question.
 const FILLER: u16 = 7777;
@@ -10,24 +11,31 @@ const FILLER: u16 = 7777;
 /// One input for every question.
 #[derive(Debug)]
 struct Sample {
-    delays: Vec<u8>,
-    types: Vec<u8>,
-    kinds: usize,
-    from: Vec<u16>,
-    to: Vec<u16>,
+    /// The graph.
+    rows: samples::Graph,
+    /// The unit counts.
     units: Vec<u8>,
+    /// The latency bound.
     bound: usize,
+    /// A row of starts.
     starts: Vec<u16>,
+    /// How many entries an output row has.
     room: usize,
 }
 
 /// How large the parts of a sample may be.
 struct Limits {
+    /// The most operations.
     operations: usize,
+    /// The longest delay.
     delay: usize,
+    /// The most edges.
     edges: usize,
+    /// The most types.
     kinds: usize,
+    /// The most units of a type.
     units: usize,
+    /// The largest bound.
     bound: usize,
 }
 
@@ -53,108 +61,71 @@ const TINY: Limits = Limits {
 
 /// The limits of the scope paper.
 const LARGE: Limits = Limits {
-    operations: 64,
-    delay: 16,
-    edges: 256,
-    kinds: 4,
+    operations: MOST_OPERATIONS,
+    delay: LONGEST_DELAY as usize,
+    edges: MOST_EDGES,
+    kinds: MOST_KINDS,
     units: 9,
-    bound: 1024,
+    bound: LAST_STEP,
 };
-
-/// A row of numbers from `low` to `high`.
-fn row(rng: &mut Xorshift, length: usize, low: usize, high: usize) -> Vec<usize> {
-    (0..length).map(|_| rng.between(low, high)).collect()
-}
-
-/// A row as bytes.
-fn bytes(row: Vec<usize>) -> Vec<u8> {
-    row.into_iter().map(|number| number as u8).collect()
-}
-
-/// A row as 16-bit numbers.
-fn words(row: Vec<usize>) -> Vec<u16> {
-    row.into_iter().map(|number| number as u16).collect()
-}
-
-/// The numbers below a limit in random order.
-fn shuffled(rng: &mut Xorshift, count: usize) -> Vec<u16> {
-    let mut numbers: Vec<u16> = (0..count as u16).collect();
-    for place in (1..count).rev() {
-        numbers.swap(place, rng.below(place + 1));
-    }
-    numbers
-}
 
 impl Sample {
     /// Makes a well-formed sample; its graph has cycles now and then.
     fn new(rng: &mut Xorshift, limits: &Limits) -> Sample {
-        let count = rng.between(0, limits.operations);
-        let kinds = rng.between(1, limits.kinds);
-        let fewest = usize::from(!rng.once_in(12));
-        let starts = rng.between(1, limits.bound + 1);
-        let mut sample = Sample {
-            delays: bytes(row(rng, count, 1, limits.delay)),
-            types: bytes(row(rng, count, 0, kinds - 1)),
-            kinds,
-            from: Vec::new(),
-            to: Vec::new(),
-            units: bytes(row(rng, kinds, fewest, limits.units)),
-            bound: rng.between(0, limits.bound),
-            starts: words(row(rng, count, 0, starts)),
-            room: count + rng.below(3),
+        let size = Size {
+            operations: rng.between(0, limits.operations),
+            longest_delay: limits.delay,
+            kinds: rng.between(1, limits.kinds),
+            edges: limits.edges,
         };
-        sample.join(rng, limits);
-        sample
-    }
-
-    /// Adds edges that go forward in a random order of the operations, but for a rare few.
-    fn join(&mut self, rng: &mut Xorshift, limits: &Limits) {
-        let count = self.delays.len();
-        let order = shuffled(rng, count);
-        let edges = rng.between(0, limits.edges.min(count * 4));
-        let cyclic = rng.once_in(4);
-        for _ in 0..edges {
-            let (a, b) = (rng.below(count), rng.below(count));
-            let backward = cyclic && rng.once_in(8);
-            if a != b || backward {
-                let (i, j) = if backward {
-                    (b, a)
-                } else {
-                    (a.min(b), a.max(b))
-                };
-                self.from.push(order[i]);
-                self.to.push(order[j]);
-            }
+        let fewest = usize::from(!rng.once_in(12));
+        let last = rng.between(1, limits.bound + 1);
+        Sample {
+            rows: samples::Graph::random(rng, size),
+            units: bytes(rng, size.kinds, fewest, limits.units),
+            bound: rng.between(0, limits.bound),
+            starts: words(rng, size.operations, 0, last),
+            room: size.operations + rng.below(3),
         }
     }
 
     /// Does one kind of damage.
     fn spoil(&mut self, rng: &mut Xorshift) {
         match rng.below(12) {
-            0 => self.delays.push(rng.bits() as u8),
-            1 => self.types.push(rng.bits() as u8),
-            2 => self.from.push(rng.below(70) as u16),
-            3 => self.to.push(rng.bits() as u16),
+            0 => self.rows.delays.push(rng.bits() as u8),
+            1 => self.rows.types.push(rng.bits() as u8),
+            2 => self.rows.from.push(rng.below(MOST_OPERATIONS + 6) as u16),
+            3 => self.rows.to.push(rng.bits() as u16),
             4 => self.units.push(rng.bits() as u8),
             5 => self.starts.push(rng.bits() as u16),
-            6 => self.kinds = rng.below(7),
+            6 => self.rows.kinds = rng.below(MOST_KINDS + 3),
             7 => self.bound = rng.bits() as usize,
-            8 => self.room = rng.below(self.delays.len() + 1),
-            9 => overwrite(rng, &mut self.delays, 18),
-            10 => overwrite(rng, &mut self.types, 6),
+            8 => self.room = rng.below(self.rows.operations() + 1),
+            9 => {
+                let delay = rng.below(usize::from(LONGEST_DELAY) + 2) as u8;
+                overwrite(rng, &mut self.rows.delays, delay);
+            }
+            10 => {
+                let kind = rng.below(MOST_KINDS + 2) as u8;
+                overwrite(rng, &mut self.rows.types, kind);
+            }
             _ => self.spoil_edges(rng),
         }
     }
 
     /// Damages the edges: an end anywhere, an edge the other way, or very many of them.
     fn spoil_edges(&mut self, rng: &mut Xorshift) {
-        let edge = rng.below(self.from.len());
-        match (rng.below(3), self.from.get_mut(edge), self.to.get_mut(edge)) {
-            (0, Some(i), _) => *i = rng.below(70) as u16,
+        let edge = rng.below(self.rows.from.len());
+        match (
+            rng.below(3),
+            self.rows.from.get_mut(edge),
+            self.rows.to.get_mut(edge),
+        ) {
+            (0, Some(i), _) => *i = rng.below(MOST_OPERATIONS + 6) as u16,
             (1, Some(i), Some(j)) => std::mem::swap(i, j),
             _ => {
-                self.from.resize(300, 0);
-                self.to.resize(300, 0);
+                self.rows.from.resize(MOST_EDGES + 44, 0);
+                self.rows.to.resize(MOST_EDGES + 44, 0);
             }
         }
     }
@@ -162,18 +133,18 @@ impl Sample {
     /// Lends the graph.
     fn graph(&self) -> Graph<'_> {
         Graph {
-            delays: &self.delays,
-            types: &self.types,
-            kinds: self.kinds,
-            from: &self.from,
-            to: &self.to,
+            delays: &self.rows.delays,
+            types: &self.rows.types,
+            kinds: self.rows.kinds,
+            from: &self.rows.from,
+            to: &self.rows.to,
         }
     }
 
     /// Every schedule, by the direct method; empty if the lister refuses.
     fn all(&self) -> Vec<Vec<u16>> {
         let (graph, mut found) = (self.graph(), Vec::new());
-        let mut out = vec![0; self.delays.len()];
+        let mut out = vec![0; self.rows.operations()];
         let mut more = direct::first(&graph, &self.units, self.bound, &mut out);
         while more == Ok(true) {
             found.push(out.clone());
@@ -181,14 +152,6 @@ impl Sample {
             more = direct::next(&graph, &self.units, self.bound, &after, &mut out);
         }
         found
-    }
-}
-
-/// Overwrites one entry of a row, if it has any.
-fn overwrite(rng: &mut Xorshift, row: &mut [u8], limit: usize) {
-    let place = rng.below(row.len());
-    if let Some(entry) = row.get_mut(place) {
-        *entry = rng.below(limit) as u8;
     }
 }
 
@@ -213,11 +176,11 @@ fn compare_schedules(sample: &Sample) {
         "{sample:?}"
     );
     compare_findings(sample, sample.bound, &sample.starts);
-    let count = sample.delays.len();
+    let count = sample.rows.operations();
     let (_, listed) = ask(count, |out| quick::list_schedule(&graph, units, out));
     compare_findings(sample, sample.bound, &listed);
     let (_, early) = ask(count, |out| quick::asap(&graph, out));
-    compare_findings(sample, 1024, &early);
+    compare_findings(sample, LAST_STEP, &early);
 }
 
 /// Demands the same finding and the same peaks of a row from both.
@@ -300,13 +263,13 @@ fn quick_equals_direct_on_tight_bounds() {
     let mut rng = Xorshift::new(0x5eed_0003);
     for _ in 0..200 {
         let mut sample = Sample::new(&mut rng, &LARGE);
-        let (_, early) = ask(sample.delays.len(), |out| {
+        let (_, early) = ask(sample.rows.operations(), |out| {
             direct::asap(&sample.graph(), out)
         });
-        let ends = early.iter().zip(&sample.delays);
+        let ends = early.iter().zip(&sample.rows.delays);
         let end = ends.map(|(&t, &d)| usize::from(t) + usize::from(d)).max();
-        sample.bound = (end.unwrap_or(1) - 1 + rng.below(2)).min(1024);
-        sample.units = vec![30; sample.kinds];
+        sample.bound = (end.unwrap_or(1) - 1 + rng.below(2)).min(LAST_STEP);
+        sample.units = vec![30; sample.rows.kinds];
         compare_steps(&sample, &early);
     }
 }
@@ -344,7 +307,7 @@ fn every_row(length: usize, limit: u16) -> Vec<Vec<u16>> {
 fn is_listed(sample: &Sample) -> bool {
     let (graph, units) = (sample.graph(), &sample.units);
     let question = |out: &mut [u16]| direct::first(&graph, units, sample.bound, out);
-    ask(sample.delays.len(), question).0.is_ok()
+    ask(sample.rows.operations(), question).0.is_ok()
 }
 
 /// The whole list is every row that the checker finds lawful, and after any row comes the least
@@ -358,7 +321,7 @@ fn lister_gives_every_lawful_row() {
         if !is_listed(&sample) {
             continue;
         }
-        let rows = every_row(sample.delays.len(), bound as u16 + 2);
+        let rows = every_row(sample.rows.operations(), bound as u16 + 2);
         let is_lawful =
             |row: &&Vec<u16>| direct::check(&graph, units, bound, row) == Ok(Finding::Lawful);
         let lawful: Vec<Vec<u16>> = rows.iter().filter(is_lawful).cloned().collect();
@@ -381,11 +344,11 @@ fn tables_bound_all_schedules() {
     let mut rng = Xorshift::new(0x5eed_0006);
     for _ in 0..400 {
         let mut sample = Sample::new(&mut rng, &TINY);
-        sample.units = vec![9; sample.kinds];
+        sample.units = vec![9; sample.rows.kinds];
         if !is_listed(&sample) {
             continue;
         }
-        let (graph, bound, count) = (sample.graph(), sample.bound, sample.delays.len());
+        let (graph, bound, count) = (sample.graph(), sample.bound, sample.rows.operations());
         let all = sample.all();
         let starts = |i: usize| all.iter().map(move |row| row[i]);
         let low: Vec<u16> = (0..count).map(|i| starts(i).min().unwrap()).collect();
@@ -437,7 +400,7 @@ fn advance_follows_the_rule_from_any_state() {
         };
         let graph = sample.graph();
         let (answer, onward) = direct::advance(state, &graph, &sample.units);
-        let unplaced = state.starts[..sample.delays.len()].contains(&0);
+        let unplaced = state.starts[..sample.rows.operations()].contains(&0);
         if answer.is_ok() && unplaced {
             while let Some(operation) = best_candidate(&state, &graph, &sample.units) {
                 state.starts[operation] = state.step as u16;
@@ -448,26 +411,26 @@ fn advance_follows_the_rule_from_any_state() {
     }
 }
 
-/// From the fresh state 1,024 advances give the list schedule, which is lawful at its latency.
+/// From the fresh state an advance for every step gives the list schedule, which is lawful at its latency.
 #[test]
 fn advances_give_the_list_schedule() {
     let mut rng = Xorshift::new(0x5eed_0008);
     for _ in 0..40 {
         let sample = Sample::new(&mut rng, &SMALL);
-        let (graph, units, count) = (sample.graph(), &sample.units, sample.delays.len());
+        let (graph, units, count) = (sample.graph(), &sample.units, sample.rows.operations());
         let (answer, out) = ask(count, |out| direct::list_schedule(&graph, units, out));
         let Ok(latency) = answer else { continue };
         let mut state = State {
             step: 1,
-            starts: [0; 64],
+            starts: [0; MOST_OPERATIONS],
         };
-        for _ in 0..1024 {
+        for _ in 0..LAST_STEP {
             state = direct::advance(state, &graph, units).1;
         }
         assert_eq!(state.starts[..count], out);
         let finding = direct::check(&graph, units, latency, &out);
         assert_eq!(finding, Ok(Finding::Lawful));
-        let total: usize = sample.delays.iter().map(|&d| usize::from(d)).sum();
+        let total: usize = sample.rows.delays.iter().map(|&d| usize::from(d)).sum();
         assert!(latency <= total);
     }
 }
@@ -479,7 +442,7 @@ fn cycles_shown_are_cycles() {
     let mut seen = 0;
     for _ in 0..2000 {
         let sample = Sample::new(&mut rng, &SMALL);
-        let (graph, count) = (sample.graph(), sample.delays.len());
+        let (graph, count) = (sample.graph(), sample.rows.operations());
         let (answer, out) = ask(count, |out| direct::asap(&graph, out));
         let Err(refusal) = answer else { continue };
         let cycle = &out[..refusal.place];

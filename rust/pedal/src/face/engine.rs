@@ -3,10 +3,8 @@
 use super::question::LONGEST_ROW;
 use super::{GraphRows, Question, Row, WrittenRow};
 use crate::ffi::{self, Advanced, Filled, Listed, Part, Peaks, Scheduled, Verdict};
+use crate::limits::{LAST_REFUSAL, MOST_KINDS, MOST_OPERATIONS};
 use crate::{process, Broken};
-
-/// The largest number of a refusal.
-const LAST_REFUSAL: usize = 13;
 
 /// Asks a question and writes the row that comes back, if the numbers are possible ones.
 fn ask<const N: usize>(
@@ -25,7 +23,7 @@ fn ask<const N: usize>(
 /// Whether a question about a graph may end with this refusal: a graph of too many operations
 /// is refused.
 fn may_end(graph: GraphRows<'_>, refusal: usize) -> bool {
-    let fits = graph.delays.length() <= ffi::PEDAL_OPERATIONS;
+    let fits = graph.delays.length() <= MOST_OPERATIONS;
     refusal <= LAST_REFUSAL && (fits || refusal != 0)
 }
 
@@ -134,7 +132,7 @@ fn may_find(graph: GraphRows<'_>, finding: usize, first: usize, second: usize) -
 /// Peak use.
 pub fn peak(graph: GraphRows<'_>, starts: Row<'_, u16>) -> Result<Peaks, Broken> {
     let question = Question::new(7, &[graph.kinds]).graph(graph).row(starts);
-    let possible = |numbers: &[usize; 6]| may_end(graph, numbers[0]);
+    let possible = |numbers: &[usize; 2 + MOST_KINDS]| may_end(graph, numbers[0]);
     let [refusal, place, peak @ ..] = ask(&question, WrittenRow::null(), possible)?;
     Ok(Peaks {
         refusal,

@@ -3,9 +3,13 @@
 use std::fmt;
 
 use super::{GraphRows, Row};
+use crate::limits::{MOST_EDGES, MOST_OPERATIONS};
 
 /// The most entries of a row that the engine takes.
 pub(super) const LONGEST_ROW: usize = 4096;
+
+/// A row of a graph that is cut to this length is still past its limit.
+const _: () = assert!(MOST_OPERATIONS < LONGEST_ROW && MOST_EDGES < LONGEST_ROW);
 
 /// An entry of a row.
 pub trait Entry: Copy {
@@ -80,9 +84,9 @@ impl Question {
 
     /// Adds a row that is only read, or as many of its entries as the engine takes.
     ///
-    /// No answer about a graph is another one for that: every row of a graph has a limit far
-    /// below (64 operations, 256 edges, 4 types), and where one is past its limit, or a row
-    /// that must match it has another length, that alone is the refusal.
+    /// No answer about a graph is another one for that: every row of a graph has a limit below,
+    /// and where one is past its limit, or a row that must match it has another length, that
+    /// alone is the refusal.
     pub(crate) fn row<T: Entry>(mut self, row: Row<'_, T>) -> Question {
         let entries = row.entries();
         let entries = &entries[..entries.len().min(LONGEST_ROW)];

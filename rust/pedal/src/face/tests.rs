@@ -3,6 +3,7 @@
 use super::question::LONGEST_ROW;
 use super::{engine, GraphRows, Row, WrittenRow};
 use crate::ffi::{Advanced, Filled, Listed, Part, Peaks, Scheduled, Verdict};
+use crate::limits::{MOST_KINDS, MOST_OPERATIONS};
 
 /// Two operations of delays 2 and 1, the second after the first.
 fn pair() -> GraphRows<'static> {
@@ -51,7 +52,7 @@ fn list_through_the_engine() {
         latency,
     };
     assert_eq!((answer, out), (Ok(scheduled), [1, 3, 9]));
-    let mut starts = [0; 64];
+    let mut starts = [0; MOST_OPERATIONS];
     let answer = engine::advance(pair(), units(), 1, WrittenRow::of(&mut starts));
     let step = 2;
     let advanced = Advanced {
@@ -89,7 +90,8 @@ fn verdicts_through_the_engine() {
     };
     let starts = Row::of(&[1, 2]);
     assert_eq!(engine::check(apart, units(), 3, starts), Ok(over_use));
-    let peak = [2, 0, 0, 0];
+    let mut peak = [0; MOST_KINDS];
+    peak[0] = 2;
     let peaks = Peaks {
         refusal,
         place,
@@ -168,7 +170,11 @@ fn long_tables() {
     let (whole, fits) = (Row::of(&table[..]), Row::of(&table[1..]));
     for (a, b) in [(whole, fits), (fits, whole)] {
         let words = engine::view(a, b, 0, 0, 1).unwrap_err().to_string();
-        assert!(words.starts_with("a table of 4097 entries is longer than the engine takes"));
+        let due = format!(
+            "a table of {} entries is longer than the engine takes",
+            table.len()
+        );
+        assert!(words.starts_with(&due), "{words}");
     }
     let part = engine::view(fits, fits, 1, LONGEST_ROW, 0).unwrap();
     assert_eq!((part.refusal, part.start, part.length), (0, LONGEST_ROW, 0));
@@ -179,9 +185,23 @@ fn long_tables() {
 mod long_rows {
     use super::super::linked;
     use super::*;
+    use crate::limits::MOST_EDGES;
 
     /// Lengths on both sides of every limit.
-    const LENGTHS: [usize; 9] = [0, 1, 2, 63, 64, 65, 4095, 4097, 65536];
+    const LENGTHS: [usize; 12] = [
+        0,
+        1,
+        2,
+        MOST_OPERATIONS - 1,
+        MOST_OPERATIONS,
+        MOST_OPERATIONS + 1,
+        MOST_EDGES,
+        MOST_EDGES + 1,
+        LONGEST_ROW - 1,
+        LONGEST_ROW,
+        LONGEST_ROW + 1,
+        16 * LONGEST_ROW,
+    ];
 
     /// Rows for every question.
     #[derive(Clone)]
@@ -203,7 +223,12 @@ mod long_rows {
                 operations: [vec![1, 1], vec![0, 0]],
                 edges: [vec![0], vec![1]],
                 units: vec![1],
-                rows: [vec![1, 2], vec![1, 2], vec![5, 6, 7], vec![0; 64]],
+                rows: [
+                    vec![1, 2],
+                    vec![1, 2],
+                    vec![5, 6, 7],
+                    vec![0; MOST_OPERATIONS],
+                ],
             }
         }
 

@@ -1,7 +1,7 @@
 //! Works the scope paper's fourteen cases by the direct method and prints the answers.
 
 use second::direct;
-use second::{Finding, Graph, Refusal, State};
+use second::{Finding, Graph, Refusal, State, MOST_OPERATIONS};
 
 /// The edges of the eleven-operation graph, numbered from 0.
 const ELEVEN_EDGES: [(u16, u16); 8] = [
@@ -152,7 +152,7 @@ fn list_text(example: &Example) -> String {
 fn advance_text(example: &Example) -> String {
     let fresh = State {
         step: 1,
-        starts: [0; 64],
+        starts: [0; MOST_OPERATIONS],
     };
     let (answer, state) = direct::advance(fresh, &example.graph(), &example.units);
     match answer {

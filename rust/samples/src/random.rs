@@ -9,6 +9,14 @@ impl Xorshift {
         Xorshift(seed | 1)
     }
 
+    /// Starts a generator from any seed, with the seed's bits well spread.
+    pub fn spread(seed: u64) -> Self {
+        let mut mixed = seed.wrapping_add(0x9E37_79B9_7F4A_7C15);
+        mixed = (mixed ^ (mixed >> 30)).wrapping_mul(0xBF58_476D_1CE4_E5B9);
+        mixed = (mixed ^ (mixed >> 27)).wrapping_mul(0x94D0_49BB_1331_11EB);
+        Xorshift::new(mixed ^ (mixed >> 31))
+    }
+
     /// Gives the next 64 bits.
     pub fn bits(&mut self) -> u64 {
         self.0 ^= self.0 << 13;
