@@ -1,5 +1,7 @@
 // Every question's way in: the first refusal that applies, or sound rows and the earliest starts. `matched` tells that the rows that only
 // the question takes have the length that they must have; with units among them, there is then a unit count for each type.
+#![tactic(auto)]
+
 mod bounds;
 mod precedence;
 pub mod rows;

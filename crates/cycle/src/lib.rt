@@ -1,4 +1,6 @@
 // The cycle shown of document 01: from the lowest kept number again and again to the lowest kept predecessor, until one is met twice.
+#![tactic(auto)]
+
 ghost use Rattle.std.specs.Prelude.{◌≡◌, ◌-◌, ◌≤◌, ◌<◌, length};
 ghost use Rattle.model.specs.Limits as limit;
 ghost use Rattle.model.specs.Order.{ordered, Closed, Cyclic};

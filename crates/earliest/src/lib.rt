@@ -1,4 +1,6 @@
 // Earliest starts of an order: as many operations are placed as can be, each at the first step at which it may start.
+#![tactic(auto)]
+
 ghost use Rattle.std.specs.Prelude.{◌≡◌, ℕ, ◌+◌, ◌*◌, ◌≤◌, ◌<◌, length, replicate};
 ghost use Rattle.maths.specs.Rows.{at, over};
 ghost use Rattle.model.specs.Limits as limit;

@@ -1,4 +1,6 @@
 // Edges linked by one of their ends: those of one operation are found without a look at the others.
+#![tactic(auto)]
+
 ghost use Rattle.edge_links.specs.Linking.{LinkableEnds, Linked};
 
 use model::limits::{EDGES, OPERATIONS};

@@ -1,4 +1,6 @@
 // The engine: the scheduler's questions through a pipe, as docs/ENGINE.md frames them.
+#![tactic(auto)]
+
 mod bytes;
 mod dispatch;
 mod kinds;

@@ -1,4 +1,6 @@
 // What is computed of whole rows: the latency of a row of starts, and the difference of two rows.
+#![tactic(auto)]
+
 ghost use Rattle.std.specs.Prelude.{◌≡◌, List, ℕ, ◌+◌, ◌-◌, ◌≤◌, length};
 ghost use Rattle.model.specs.Order.{ordered};
 ghost use Rattle.model.specs.Tables.{Latency};

@@ -1,4 +1,6 @@
 // The list schedule and its advance.
+#![tactic(auto)]
+
 ghost use Rattle.std.specs.Prelude.{◌≡◌, ◌+◌, ◌≤◌, length};
 ghost use Rattle.maths.specs.Cases.{Tells};
 ghost use Rattle.model.specs.Limits as limit;

@@ -1,4 +1,6 @@
 // The list schedule's rule at one step: what is in use, and one pass in the order of priority that starts candidates.
+#![tactic(auto)]
+
 pub mod priority;
 
 ghost use Rattle.std.specs.Prelude.{◌≡◌, List, ℕ, ◌+◌, ◌≤◌, ◌<◌, ltb, length};

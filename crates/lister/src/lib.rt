@@ -1,4 +1,6 @@
 // The lister of all lawful schedules: the least one, and the least one after a row.
+#![tactic(auto)]
+
 mod search;
 
 ghost use Rattle.std.specs.Prelude.{◌≡◌, ◌+◌, ◌-◌, ◌≤◌, ◌<◌, length, take};

@@ -1,4 +1,6 @@
 // What every answer is made of: the limits and the types of answers. What they mean is in specs/.
+#![tactic(auto)]
+
 pub mod limits;
 
 ghost use Rattle.std.specs.Prelude.{◌≡◌};

@@ -1,4 +1,6 @@
 // Peak use: for each type the largest number of its operations that are running at any one step.
+#![tactic(auto)]
+
 ghost use Rattle.std.specs.Prelude.{◌≡◌, List, ℕ, max, length};
 ghost use Rattle.model.specs.Graph.{graph_of, lent};
 ghost use Rattle.model.specs.Verdicts.{PeakAnswer};

@@ -1,4 +1,6 @@
 // The face for C and Rust: each function hands on exactly what its entry point says, as numbers.
+#![tactic(auto)]
+
 ghost use Rattle.std.specs.Prelude.{◌≡◌, length};
 ghost use Rattle.model.specs.Limits as limit;
 ghost use Rattle.model.specs.Graph.{lent};

@@ -1,4 +1,6 @@
 // Where an operation may stand, given those placed before it: its edges to them are kept, and its type has units enough while it runs.
+#![tactic(auto)]
+
 ghost use Rattle.std.specs.Prelude.{◌≡◌, ◌+◌, ◌≤◌, ◌<◌, max, length};
 ghost use Rattle.maths.specs.Cases.{Tells};
 ghost use Rattle.maths.specs.Rows.{at};

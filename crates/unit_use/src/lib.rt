@@ -1,4 +1,6 @@
 // How many operations are running: one count, for those that are placed so far and for all.
+#![tactic(auto)]
+
 ghost use Rattle.std.specs.Prelude.{◌≡◌, ◌+◌, ◌≤◌, length};
 ghost use Rattle.maths.specs.Count.{bit};
 ghost use Rattle.theory.specs.unit_use.RunningInNumbers.{runs_for};

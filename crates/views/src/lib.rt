@@ -1,4 +1,6 @@
 // Views of the two channels' start tables: a part of the table asked for, in that table's own memory, and why there is none.
+#![tactic(auto)]
+
 ghost use Rattle.std.specs.Prelude.{◌+◌, ◌≤◌};
 ghost use Rattle.maths.specs.Cases.{Tells};
 ghost use Rattle.model.specs.Views.{Viewed, ViewRefusal};

@@ -1,4 +1,6 @@
 // The worked cases of document 01, run; what they write is kept beside this file and compared.
+#![tactic(auto)]
+
 mod eleven;
 mod lister_cases;
 mod rule_cases;

@@ -1,0 +1,16 @@
+-- `cycle::trail` meets its contract: the row of `backs` leads from each kept operation to its lowest kept predecessor, so the walk is the trail.
+use Rattle.cycle.proofs.Showing.{ends, stays, trailed}
+use Rattle.cycle.proofs.trail.Goals as goal
+
+pub backs-back-requires : goal.backs-back-requires
+backs-back-requires c = ends c.requires.closed
+
+pub walk-requires : goal.walk-requires
+walk-requires c =
+    let given = c.requires in
+    stays given.closed given.kept_at given.cyclic c.backs-back.ensures c.first_blank.ensures
+
+pub returns : goal.returns
+returns c =
+    let given = c.requires in
+    trailed given.closed given.kept_at given.cyclic c.backs-back.ensures c.first_blank.ensures c.walk.ensures

@@ -1,0 +1,11 @@
+-- `earliest::earliest` meets its contract. The loop keeps `RoundsSoFar`: a part is placed and counted. What is not placed yet falls.
+use Rattle.std.proofs.Common.{◌-◌, length}
+use Rattle.model.specs.Order.{ordered}
+use Rattle.earliest.proofs.Rounds.{RoundsSoFar}
+use Rattle.earliest.proofs.earliest.Given as goal
+
+abbrev pub invariant-loop-links : goal.invariant-loop-links
+invariant-loop-links l = RoundsSoFar (ordered l.weights l.from l.to) l.starts l.links l.total
+
+abbrev pub decreases-loop-links : goal.decreases-loop-links
+decreases-loop-links l = length l.weights - l.total

@@ -1,0 +1,10 @@
+-- `earliest::first_step` meets its contract. The loop keeps `WalkingBack`: the edges past the link are seen. The link falls.
+use Rattle.model.specs.Order.{ordered}
+use Rattle.earliest.proofs.WalkingBack.{WalkingBack}
+use Rattle.earliest.proofs.first_step.Given as goal
+
+abbrev pub invariant-loop-edge : goal.invariant-loop-edge
+invariant-loop-edge l = WalkingBack (ordered l.weights l.from l.to) l.starts l.i l.step l.edge
+
+abbrev pub decreases-loop-edge : goal.decreases-loop-edge
+decreases-loop-edge l = l.edge
