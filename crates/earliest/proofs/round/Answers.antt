@@ -10,7 +10,7 @@ pub visit-placed-requires : goal.visit-placed-requires
 visit-placed-requires c =
     let here = c.loop-k in
     let inside = kth_inside c.args.up (length c.args.weights.now) here.k (omega arith) in
-    (known_more c.requires here.invariant.part, omega (arith, c.kth-i.ensures))
+    record { known = known_more c.requires here.invariant.part; i_in_bounds = omega (arith, c.kth-i.ensures) }
 
 pub overflow_add-placed : goal.overflow_add-placed
 overflow_add-placed c =
