@@ -13,4 +13,4 @@ place-found-requires c = record { ready = ready_none _ (sized_own _ (omega arith
 pub returns : goal.returns
 returns c =
     let placed = c.place-found in
-    sought c.requires.sound _ placed.ensures (omega (arith, c.requires.sound.few, placed.auto.1.1.1.1.1.1.1.1.1.0)) c.give.ensures
+    sought c.requires.sound _ placed.ensures (omega (arith, c.requires.sound.few, placed.auto.starts)) c.give.ensures

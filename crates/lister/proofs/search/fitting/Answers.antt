@@ -15,19 +15,24 @@ bounds-starts-i c = omega (arith, c.loop-step.invariant.long, c.requires.i_in_bo
 
 pub fits-requires : goal.fits-requires
 fits-requires c =
-    let long = c.loop-step.invariant.long in let asked = simp length-set ((c.requires.i_in_bounds.0, omega (arith, long, c.requires.i_in_bounds.1), c.requires.i_in_bounds.2), (c.requires.linked, busy_lent c.requires.i_in_bounds.2)) in record { i_in_bounds = asked.0; linked = asked.1.0; busy_sound = asked.1.1 }
+    let long = c.loop-step.invariant.long in
+    record {
+      i_in_bounds = (c.requires.i_in_bounds.0, simp length-set (omega (arith, long, c.requires.i_in_bounds.1)), c.requires.i_in_bounds.2);
+      linked = c.requires.linked;
+      busy_sound = busy_lent c.requires.i_in_bounds.2;
+    }
 
 pub shape_of-starts-then-fits : goal.shape_of-starts-then-fits
 shape_of-starts-then-fits c = simp length-set c.loop-step.invariant.long
 
 pub returns-then-fits : goal.returns-then-fits
-returns-then-fits c = trying_found c.loop-step.invariant c.requires.i_in_bounds.1 _ (c.fits2.ensures.yes c.if-fits.true)
+returns-then-fits c = trying_found c.loop-step.invariant c.requires.i_in_bounds.1 _ (c.fits.ensures.yes c.if-fits.true)
 
 pub loop-step-smaller : goal.loop-step-smaller
 loop-step-smaller c = omega (arith, c.loop-step-test.true)
 
 pub loop-step-preserved : goal.loop-step-preserved
-loop-step-preserved c = trying_step c.loop-step.invariant c.requires.i_in_bounds.1 (c.fits2.ensures.none c.if-fits.false)
+loop-step-preserved c = trying_step c.loop-step.invariant c.requires.i_in_bounds.1 (c.fits.ensures.none c.if-fits.false)
 
 pub shape_of-starts : goal.shape_of-starts
 shape_of-starts c = c.loop-step.invariant.long
