@@ -7,7 +7,7 @@ ghost use Rattle.std.specs.Prelude.{◌≡◌};
 ghost use Rattle.model.specs.Answers.{numbered};
 
 // Why a question is refused, in the order of document 01's table.
-#[derive(Drop)]
+#[derive(Clone, Copy)]
 pub enum Refusal {
     TooLarge,
     Uneven,
@@ -69,7 +69,7 @@ impl Refusal {
 }
 
 // The answer of a question whose value is a row, or that only tests: done, or refused.
-#[derive(Drop)]
+#[derive(Clone, Copy)]
 pub enum Answer {
     Done,
     Refused(Refusal),
@@ -77,7 +77,7 @@ pub enum Answer {
 
 // What the checker finds: lawful; a start of 0 or a finish past the bound, with its operation; a broken edge, with its number;
 // over-use, with its step and type; or why it was not asked.
-#[derive(Drop)]
+#[derive(Clone, Copy)]
 pub enum Finding {
     Lawful,
     Untimely(usize),
@@ -87,27 +87,27 @@ pub enum Finding {
 }
 
 // The checker's answer.
-#[derive(Drop)]
+#[derive(Clone, Copy)]
 pub struct Verdict {
     pub finding: Finding,
 }
 
 // Peak use: the answer, and beside it a number for each type, zeros when refused.
-#[derive(Drop)]
+#[derive(Clone, Copy)]
 pub struct Peaks {
     pub answer: Answer,
     pub counts: [usize; limits::KINDS],
 }
 
 // The list schedule's answer.
-#[derive(Drop)]
+#[derive(Clone, Copy)]
 pub enum Scheduled {
     Latency(usize),
     Refused(Refusal),
 }
 
 // The lister's answer.
-#[derive(Drop)]
+#[derive(Clone, Copy)]
 pub enum Listed {
     Found,
     NoneLeft,

@@ -17,7 +17,7 @@ use model::{Answer, Finding};
 
 // The answer of a question that fills a row.
 #[repr(C)]
-#[derive(Drop)]
+#[derive(Clone, Copy)]
 pub struct Filled {
     pub refusal: usize,
     pub place: usize,
@@ -88,7 +88,7 @@ pub extern "C" fn pedal_mobility(
 
 // A view: where it starts in the chosen table, and how many entries it has.
 #[repr(C)]
-#[derive(Drop)]
+#[derive(Clone, Copy)]
 pub struct Part {
     pub refusal: usize,
     pub start: usize,
@@ -123,7 +123,7 @@ pub extern "C" fn pedal_view(
 
 // The list schedule's answer.
 #[repr(C)]
-#[derive(Drop)]
+#[derive(Clone, Copy)]
 pub struct Scheduled {
     pub refusal: usize,
     pub place: usize,
@@ -166,7 +166,7 @@ pub extern "C" fn pedal_list(
 
 // The checker's verdict: 0 lawful, 1 untimely, 2 broken, 3 over-use, with its operation, edge, or step and type.
 #[repr(C)]
-#[derive(Drop)]
+#[derive(Clone, Copy)]
 pub struct Verdict {
     pub refusal: usize,
     pub place: usize,
@@ -238,7 +238,7 @@ pub extern "C" fn pedal_check(
 
 // The lister's answer: found is 1 where a schedule was written.
 #[repr(C)]
-#[derive(Drop)]
+#[derive(Clone, Copy)]
 pub struct Listed {
     pub refusal: usize,
     pub place: usize,
@@ -305,7 +305,7 @@ pub extern "C" fn pedal_next(
 
 // Peak use: for each type the most operations running at any one step.
 #[repr(C)]
-#[derive(Drop)]
+#[derive(Clone, Copy)]
 pub struct Peaks {
     pub refusal: usize,
     pub place: usize,
@@ -349,7 +349,7 @@ pub extern "C" fn pedal_peak(
 
 // The advance's answer, and the step that the state now has.
 #[repr(C)]
-#[derive(Drop)]
+#[derive(Clone, Copy)]
 pub struct Advanced {
     pub refusal: usize,
     pub place: usize,
