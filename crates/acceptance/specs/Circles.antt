@@ -9,7 +9,7 @@ use Rattle.maths.specs.Count.{every}
 use Rattle.model.specs.Order.{Order, size, edge_count, source, target, Edge, Walk, one, more, Kept}
 use Rattle.model.specs.Graph.{Graph, order}
 use Rattle.model.specs.Cycle.{Back, Shown}
-use Rattle.acceptance.specs.Free.{plain_graph, two_starts, below_one, below_two}
+use Rattle.acceptance.specs.Free.{plain_graph, two_starts, below_two}
 
 -- a row of three
 abbrev pub three : ℕ → ℕ → ℕ → List ℕ

@@ -1,5 +1,5 @@
 -- Document 01's starred cases, 6 to 14, as one table, and one fact over the whole table: by computing where they compute.
-use Rattle.std.specs.Prelude.{◌≡◌, List, [], ◌∷◌, ◌++◌, ℕ, ◌+◌, ◌≤◌, length, replicate}
+use Rattle.std.specs.Prelude.{◌≡◌, List, [], ◌∷◌, ◌++◌, ℕ, ◌≤◌, length, replicate}
 use Rattle.std.proofs.Math.Option.{Option, none, some}
 use Rattle.maths.specs.Rows.{over}
 use Rattle.maths.specs.Words.{keep}

@@ -1,5 +1,5 @@
 -- Every starred case comes out: the cycles by walking back, the lists and lawful verdicts by computing, the windows by their product.
-use Rattle.std.specs.Prelude.{◌≡◌, refl, true, List, [], ◌∷◌, ◌++◌, ℕ, zero, suc, ◌+◌, ◌≤◌, ◌<◌, leb, length, replicate}
+use Rattle.std.specs.Prelude.{◌≡◌, refl, true, List, [], ◌∷◌, ◌++◌, ℕ, zero, suc, ◌≤◌, ◌<◌, leb, length, replicate}
 use Rattle.std.proofs.Math.Option.{Option, none, some}
 use Rattle.std.proofs.Common.{⊎_elim, arith}
 use Rattle.maths.specs.Tests.{◌and◌, ◌or◌}

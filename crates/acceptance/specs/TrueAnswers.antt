@@ -21,7 +21,7 @@ use Rattle.model.specs.Verdicts.{Counts, PeakAnswer}
 use Rattle.model.specs.Order.{weight}
 use Rattle.model.specs.Rule.{Chain, Label, Labels, label_order, finished, blocks, candidate, ahead, starts_now, stepped, after, ListStarts}
 use Rattle.model.specs.Scheduling.{ListAnswer, StateAfter, AdvanceAnswer}
-use Rattle.model.specs.Listing.{is_lawful, Least, NoneLeft, Gives, ListerAnswer, Asked, AskedAll}
+use Rattle.model.specs.Listing.{is_lawful, Least, Gives, ListerAnswer, Asked, AskedAll}
 use Rattle.model.specs.Checks.{asap_checks, alap_checks, lister_checks}
 use Rattle.theorems.specs.AllListed.{asked_all, Gets, next_gets}
 use Rattle.model.specs.declared.Answer.TheVariants as answers

@@ -18,7 +18,7 @@ use model::limits::{OPERATIONS, STEPS};
 use model::{Answer, Refusal};
 
 // The answer so far, and beside it the earliest starts: zeros where it is refused.
-#[derive(Drop)]
+#[derive(Clone, Copy)]
 pub struct Begun {
     pub answer: Answer,
     pub starts: [u16; OPERATIONS],

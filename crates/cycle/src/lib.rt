@@ -55,7 +55,7 @@ fn first_blank(starts: &[u16; OPERATIONS], n: usize) -> usize
 }
 
 // What was met, how many, and the place of the one that came again.
-#[derive(Drop)]
+#[derive(Clone, Copy)]
 struct Walked {
     met: [u16; OPERATIONS],
     count: usize,

@@ -1,14 +1,14 @@
 -- Delays as weights and starts in 16 bits: the rows are the same lists of numbers, entry by entry, and every start fits.
-use mathlib.Core.Path.{◌≡◌, refl, sym, ap, subst, ◌∙◌}
+use mathlib.Core.Path.{◌≡◌, sym, ap, subst, ◌∙◌}
 use mathlib.Core.List.{List}
-use Prim.Native.Nat.{ℕ, ◌+◌, ◌-◌, ◌*◌, ◌≤◌, ◌<◌}
+use Prim.Native.Nat.{ℕ, ◌+◌, ◌-◌, ◌≤◌, ◌<◌}
 use native.Mathlib.Omega.{arith}
 use borrow.Author.Count.{below_none, below_more}
 use lib.ListN.{length, set, take, replicate, length-set, length-replicate}
 use lib.Seq.{get_or-set_same, get_or-set_other}
 use Rattle.maths.specs.Rows.{at, blank, over, over_long, over_front, over_is, same_row, take_at, take_long}
 use Rattle.model.specs.Limits as limit
-use Rattle.model.specs.Order.{Order, ordered, Closed}
+use Rattle.model.specs.Order.{ordered, Closed}
 use Rattle.model.specs.Placing.{Placing}
 use Rattle.theory.specs.order.PlacingOutcome.{placing_low}
 use Rattle.theory.specs.refusals.SoundGraph.{closed_heavier}

@@ -9,7 +9,7 @@ use pedal::{Advanced, Filled, Listed, Part, Peaks, Scheduled, Verdict};
 
 // A reply: kind 0 where the question was asked. The first `count` numbers are the answer's, and the row written has `len` entries
 // from byte `at` on, none where none is written.
-#[derive(Drop)]
+#[derive(Clone, Copy)]
 pub struct Reply {
     pub kind: usize,
     pub count: usize,

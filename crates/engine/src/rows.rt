@@ -9,7 +9,7 @@ use crate::sizes::LONGEST;
 
 // A row's place among the bytes: where its entries begin, how many they are, where the next row begins, and the fault in the
 // framing up to there, 0 if there is none. Where there is a fault the row is empty.
-#[derive(Drop)]
+#[derive(Clone, Copy)]
 pub struct Row {
     pub at: usize,
     pub len: usize,
@@ -18,7 +18,7 @@ pub struct Row {
 }
 
 // The rows of a graph.
-#[derive(Drop)]
+#[derive(Clone, Copy)]
 pub struct Graph {
     pub delays: Row,
     pub types: Row,

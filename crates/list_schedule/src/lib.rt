@@ -15,14 +15,14 @@ use model::limits::{OPERATIONS, STEPS};
 use model::{Answer, Refusal, Scheduled};
 
 // The list schedule's state: the step, and a start for each operation, 0 for one that is not placed.
-#[derive(Drop)]
+#[derive(Clone, Copy)]
 pub struct State {
     pub step: usize,
     pub starts: [u16; OPERATIONS],
 }
 
 // What an advance answers, and beside it the state that it hands back.
-#[derive(Drop)]
+#[derive(Clone, Copy)]
 pub struct Advanced {
     pub answer: Answer,
     pub state: State,

@@ -1,6 +1,6 @@
 -- Rows turned: the other way round, and to begin at another place.
 use Rattle.std.specs.Prelude.{◌≡◌, refl, ℕ, suc, ◌+◌, ◌-◌, ◌≤◌, ◌<◌, length, take, drop}
-use Rattle.std.proofs.Common.{sym, ap, ◌∙◌, ⊎_elim, arith, length-append, length-take, length-drop, get_or-append-add, get_or-drop, get_or-take}
+use Rattle.std.proofs.Common.{ap, ◌∙◌, ⊎_elim, arith, length-append, length-take, length-drop, get_or-append-add, get_or-drop, get_or-take}
 use mathlib.Core.List.{List, [], ◌∷◌, ◌++◌, reverse, reverse-cons}
 use Rattle.std.proofs.Math.ListN.{get_or-append}
 use Rattle.maths.specs.Cases.{lt_or_le}

@@ -19,7 +19,7 @@ use Rattle.theory.specs.list.Progress.{Doable}
 use Rattle.theory.specs.list.OneListSchedule.{all_placed, stepped_same, stable, after_stable}
 use Rattle.theory.specs.refusals.FirstRefusal.{first_pass, first_silent, first_end, flat_silent}
 use Rattle.theory.specs.refusals.OneRefusal.{first_one}
-use Rattle.theory.specs.refusals.SoundGraph.{closed, closed_turned, sound}
+use Rattle.theory.specs.refusals.SoundGraph.{closed, closed_turned}
 use Rattle.theory.specs.tables.KeepingStarts.{keeps_acyclic}
 use Rattle.theory.specs.list.OneListAnswer.{advance_ones, all_or_not}
 

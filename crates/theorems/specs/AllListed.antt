@@ -16,7 +16,6 @@ use Rattle.model.specs.Graph.{Graph, order, many, edges_of, delay, Sound}
 use Rattle.model.specs.Use.{running, Lawful}
 use Rattle.model.specs.Listing.{is_lawful, all_lawful, Later, Least, NoneLeft, Asked, AskedAll}
 use Rattle.theory.specs.unit_use.RunningAndPeak.{first_starts_enough}
-use Rattle.theory.specs.refusals.SoundGraph.{sound}
 use Rattle.theory.specs.lister.OneLeast.{least_left, least_one}
 
 -- ---- what a lawful schedule is made of

@@ -5,7 +5,6 @@ use Rattle.std.proofs.Math.Option.{none}
 use Rattle.model.specs.Graph.{Graph}
 use Rattle.model.specs.Use.{Lawful}
 use Rattle.model.specs.Verdicts.{refusal_in_finding, Finds, Checked}
-use Rattle.model.specs.declared.Finding as finding
 use Rattle.model.specs.declared.Finding.TheVariants as found
 use Rattle.model.specs.declared.Verdict.{Verdict}
 use Rattle.theory.specs.unit_use.OneVerdict.{finds_one}

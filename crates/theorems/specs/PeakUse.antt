@@ -8,7 +8,7 @@ use Rattle.maths.specs.Greatest.{greatest}
 use Rattle.model.specs.Graph.{Graph, order, many, type_of}
 use Rattle.model.specs.Tables.{Keeps, Within}
 use Rattle.model.specs.Use.{running, Lawful, Peak}
-use Rattle.theory.specs.unit_use.RunningAndPeak.{Met, nobody, once, peak_starts, running_none}
+use Rattle.theory.specs.unit_use.RunningAndPeak.{Met, peak_starts, running_none}
 
 -- a type that nobody uses has a peak of 0
 pub peak_unused : (g : Graph) (t : List ℕ) (k p : ℕ) → None (λ i. type_of g i ≡ k) (many g) → Peak g t k p → p ≡ 0

@@ -215,7 +215,7 @@ fn found(answer: Listed) -> bool {
 }
 
 // How many schedules there are, and their checksum.
-#[derive(Drop)]
+#[derive(Clone, Copy)]
 struct Summary {
     count: usize,
     sum: u64,

@@ -1,5 +1,5 @@
 -- Labels: there is one row of them, and each is the earliest start in the order turned round, with the operation's own weight added, less 1.
-use Rattle.std.specs.Prelude.{◌≡◌, refl, ◌⊎◌, List, ℕ, zero, suc, ◌+◌, ◌-◌, ◌≤◌, ◌<◌, length, set, replicate}
+use Rattle.std.specs.Prelude.{◌≡◌, refl, ◌⊎◌, List, ℕ, zero, suc, ◌+◌, ◌-◌, ◌≤◌, ◌<◌, length, set}
 use Rattle.std.proofs.Common.{sym, ap, subst, inl, inr, ⊎_elim, not-suc-le-zero, arith}
 use Rattle.std.proofs.lemmas.List.{length-replicate, get_or-replicate}
 use Rattle.std.proofs.Math.Seq.{get_or-set_same, get_or-set_other}

@@ -15,7 +15,7 @@ use Rattle.model.specs.Checks.{list_checks, advance_checks}
 use Rattle.model.specs.declared.Scheduled as scheduled
 use Rattle.model.specs.declared.Scheduled.TheVariants as answers
 use Rattle.theory.specs.refusals.OneRefusal.{Ones, first_one, flat_one, ones_single, ones_append, graph_unit_ones, front_unit_ones}
-use Rattle.theory.specs.refusals.SoundGraph.{has_unit, closed, sound}
+use Rattle.theory.specs.refusals.SoundGraph.{has_unit, closed}
 use Rattle.theory.specs.refusals.RefusalNumbers.{numbered_one}
 use Rattle.theory.specs.refusals.RowAfterwards.{answered_one, row_is}
 use Rattle.theory.specs.tables.OneTable.{latency_one}

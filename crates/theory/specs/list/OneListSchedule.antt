@@ -13,7 +13,7 @@ use Rattle.maths.specs.Sum.{sum_bound}
 use Rattle.maths.specs.Counting.{count_same}
 use Rattle.model.specs.Limits as limit
 use Rattle.model.specs.Graph.{Graph, Sound, many, delay, type_of}
-use Rattle.model.specs.Rule.{placed, candidate, ahead, candidates_ahead, starts_now, stepped, AllPlaced, after, ListStarts}
+use Rattle.model.specs.Rule.{candidate, ahead, candidates_ahead, starts_now, stepped, AllPlaced, after, ListStarts}
 use Rattle.theory.specs.list.LabelValues.{graph_labels_one}
 use Rattle.theory.specs.list.OneStep.{ahead_same, starts_is, is_starts, starts_unplaced, stepped_long, starts_at, stays_at}
 use Rattle.theory.specs.list.Progress.{Doable, all_delays, all_finished}

@@ -7,7 +7,7 @@ use Rattle.maths.specs.Cases.{none_some, some_one}
 use Rattle.model.specs.Graph.{Graph, order}
 use Rattle.model.specs.Refusals.{Check, ManyWindows, ListerUneven}
 use Rattle.model.specs.Answers.{numbered, RowAfter}
-use Rattle.model.specs.Listing.{NoneLeft, refusal_in_listed, Gives, ListerAnswer}
+use Rattle.model.specs.Listing.{refusal_in_listed, Gives, ListerAnswer}
 use Rattle.model.specs.Checks.{lister_checks}
 use Rattle.model.specs.declared.Listed.{Listed}
 use Rattle.model.specs.declared.Listed.TheVariants as answers

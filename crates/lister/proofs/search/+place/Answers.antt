@@ -32,9 +32,9 @@ loop-t-init t c = loop_begins (omega (arith, c.requires.ready.inside, c.if-i-del
 
 pub place-requires : goal.place-requires
 place-requires t c = (
-      omega (arith, c.decreases, c.loop-t.invariant.inside),
-      (loop_ready c.loop-t.invariant c.loop-t-test.true c.stays_equal-deeper.ensures, c.requires.linked),
-    )
+  omega (arith, c.decreases, c.loop-t.invariant.inside),
+  (loop_ready c.loop-t.invariant c.loop-t-test.true c.stays_equal-deeper.ensures, c.requires.linked),
+)
 
 pub shape_of-starts-then-place : goal.shape_of-starts-then-place
 shape_of-starts-then-place t c = c.place.auto.starts ∙ c.loop-t.invariant.long ∙ c.fitting-t.auto.starts
