@@ -63,9 +63,9 @@ checksum_of_all() {
     LC_ALL=C sort -z | xargs -0 sha256sum | sha256sum | cut -d ' ' -f 1
 }
 
-# The checksum of all that is proved: a must-fail edit is not.
+# The checksum of all that is proved: a must-fail edit is not, nor is what rt keeps in a crate's folder out.
 checksum_of_crates() {
-    find crates.txt crates -path 'crates/*/must-fail' -prune -o '(' -type f -o -type l ')' -print0 | checksum_of_all
+    find crates.txt crates -regex 'crates/[^/]*/\(must-fail\|out\)' -prune -o '(' -type f -o -type l ')' -print0 | checksum_of_all
 }
 
 # The checksum of the Rust side's sources.
@@ -97,45 +97,48 @@ is_proved() { # FILE
     [ -z "$now" ] || [ "${record[2]:-}" = "kit $now" ]
 }
 
-# Writes beside a file, which rt has just made, that it is proved; not if the crates have another checksum than before rt ran.
-record_proof() { # FILE CHECKSUM
+# Copies what rt has just made to where it is wanted, and writes beside it that it is proved; not if the crates have another checksum than
+# before rt ran.
+keep_proved() { # MADE FILE CHECKSUM
+    rm -f "$2" "$2.proved"
     if [ ! -f "$1" ]; then
         say "rt made no $1"
         return 1
     fi
-    if [ "$2" != "$(checksum_of_crates)" ]; then
+    if [ "$3" != "$(checksum_of_crates)" ]; then
         say "the crates were changed while they were proved"
         return 1
     fi
-    printf '%s\n' "crates $2" "file $(checksum "$1")" "kit $(kit)" "folder $(kit_folder)" >"$1.proved"
+    mkdir -p "$(dirname "$2")" && cp "$1" "$2" || return 1
+    printf '%s\n' "crates $3" "file $(checksum "$2")" "kit $(kit)" "folder $(kit_folder)" >"$2.proved"
 }
 
-# Has rt prove and make a file, unless it is proved. What was there goes first: none is left if rt fails.
-prove() { # FILE NAME WORDS..
-    local file=$1 name=$2 crates
-    shift 2
+# Has rt prove a crate and make a file in the crate's folder out, and copies that to where it is wanted, unless it is proved. What was there
+# goes first: none is left if rt fails.
+prove() { # FILE NAME CRATE VERB MADE
+    local file=$1 name=$2 folder=crates/$3 verb=$4 made=crates/$3/out/$5 crates
     if is_proved "$file"; then
         return 0
     fi
     say "proving $name; the first time this takes a while"
-    rm -f "$file" "$file.proved"
-    if ! { crates=$(checksum_of_crates) && rt "$@" </dev/null >&2 9<&- && record_proof "$file" "$crates"; }; then
+    rm -f "$file" "$file.proved" "$made"
+    if ! {
+        crates=$(checksum_of_crates) && (cd "$folder" && exec env -u RT_BACKEND rt "$verb") </dev/null >&2 9<&- &&
+            keep_proved "$made" "$file" "$crates"
+    }; then
         say "$name could not be proved"
         return 1
     fi
 }
 
-# Proves the library and writes the archive.
+# Proves the library and makes the archive.
 prove_library() {
-    prove "$archive" "the library" staticlib pedal
+    prove "$archive" "the library" pedal_c lib libpedal_c.a
 }
 
-# Proves the engine. rt looks at its own stamp alone, and would take any engine that stands there: the stamp goes first.
+# Proves the engine and makes it. rt also runs it once: with no question on its input it ends at once.
 prove_engine() {
-    if ! is_proved "$engine"; then
-        rm -f target/stamp/engine
-    fi
-    prove "$engine" "the engine" check engine
+    prove "$engine" "the engine" engine run engine
 }
 
 # Succeeds if all is proved that answers.
@@ -212,18 +215,28 @@ is_ready() { # PROGRAM
     all_is_proved && is_built "$1"
 }
 
-# Makes a Rust program ready to be started; first it looks for every tool that this takes. Of two runs at once the second waits.
-make_ready() { # PACKAGE PROGRAM
-    local tools=(cargo cc)
-    all_is_proved || tools=(rt cargo cc)
-    need_tools "${tools[@]}" || return 1
+# Runs a command that proves or builds. Of two runs at once the second waits.
+in_turn() { # COMMAND..
     {
         if command -v flock >/dev/null && ! flock --nonblock 9; then
             say "waiting for another run that proves or builds here"
             flock 9
         fi
-        prove_all && build "$1" "$2"
+        "$@"
     } 9<.
+}
+
+# Proves what answers, and builds a Rust program.
+prove_and_build() { # PACKAGE PROGRAM
+    prove_all && build "$1" "$2"
+}
+
+# Makes a Rust program ready to be started; first it looks for every tool that this takes.
+make_ready() { # PACKAGE PROGRAM
+    local tools=(cargo cc)
+    all_is_proved || tools=(rt cargo cc)
+    need_tools "${tools[@]}" || return 1
+    in_turn prove_and_build "$1" "$2"
 }
 
 # Tells the program that is started next where the engine stands, wherever the checkout was when it was built; and, on a machine that runs

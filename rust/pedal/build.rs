@@ -37,7 +37,7 @@ fn link(folder: &Path) {
 /// Tells cargo what is missing and how to make it, at which cargo stops.
 fn complain(archive: &Path) {
     println!(
-        "cargo::error=the proved library {} is missing: run `rt staticlib pedal` at the root of \
+        "cargo::error=the proved library {} is missing: run `tools/prove library` at the root of \
          the repository first, or let {VARIABLE} name the folder of {ARCHIVE}, or leave it out \
          with {LINK}=no",
         archive.display()

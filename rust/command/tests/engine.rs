@@ -136,7 +136,7 @@ fn engines_at_fault() {
         assert!(broken(&run).starts_with(&start), "{}", run.err);
         assert!(run
             .err
-            .contains("rt check engine` at the root of the repository makes it"));
+            .contains("tools/prove engine` at the root of the repository makes it"));
         assert_eq!(run.out, "");
     }
 }
@@ -153,7 +153,7 @@ fn listing_cut_short() {
 #[test]
 fn missing_engine() {
     let run = all("nowhere");
-    assert!(broken(&run).contains("nowhere is missing; `rm -f target/stamp/engine; rt check"));
+    assert!(broken(&run).contains("nowhere is missing; `tools/prove engine` at the root"));
     assert_eq!(run.out, "");
 }
 

@@ -17,9 +17,9 @@ const PROGRAM: &str = "target/bin/engine";
 /// The kind of machine that runs the engine directly.
 const OWN: &str = "x86_64";
 
-/// What to do about an engine that does not work. `rt` makes no other as long as its stamp stands.
-pub(crate) const REMEDY: &str = "`rm -f target/stamp/engine; rt check engine` at the root of the \
-                                 repository makes it, and PEDAL_ENGINE names another one";
+/// What to do about an engine that does not work.
+pub(crate) const REMEDY: &str = "`tools/prove engine` at the root of the repository makes it, and \
+                                 PEDAL_ENGINE names another one";
 
 /// The engine's path: the repository's, known since this crate was built, unless another one is
 /// named.
