@@ -7,7 +7,7 @@ use borrow.Author.Count.{below_none, below_more}
 use lib.ListN.{length, set, length-set}
 use lib.Seq.{get_or-set_same, get_or-set_other}
 use Rattle.maths.specs.Rows.{at}
-use Rattle.engine.specs.Frame.{two, four, eight}
+use Rattle.engine.specs.Frame.{two, four}
 use Rattle.engine.specs.Laid.{Within, TwoLaid, FourLaid, EightLaid, WordsLaid}
 
 -- nothing was written

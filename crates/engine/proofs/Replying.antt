@@ -10,8 +10,7 @@ use Rattle.model.specs.Answers.{AsapAnswer, AlapAnswer, MobilityAnswer}
 use Rattle.model.specs.Scheduling.{ListAnswer}
 use Rattle.model.specs.Verdicts.{Checked, PeakAnswer}
 use Rattle.model.specs.Listing.{ListerAnswer}
-use Rattle.model.specs.Channels.{Table}
-use Rattle.pedal.specs.Face.{HandsOn, filled_of, scheduled_of, verdict_of, listed_of, peaks_of, AdvanceSaid, PartSaid}
+use Rattle.pedal.specs.Face.{HandsOn, filled_of, scheduled_of, verdict_of, listed_of, peaks_of, AdvanceSaid}
 use Rattle.pedal.specs.declared.Filled.{Filled}
 use Rattle.pedal.specs.declared.Scheduled.{Scheduled}
 use Rattle.pedal.specs.declared.Verdict.{Verdict}

@@ -1,5 +1,5 @@
 -- What the frame holds when a question is answered.
-use Rattle.std.specs.Prelude.{◌≡◌, List, ℕ, ◌+◌, ◌*◌, ◌≤◌, ◌<◌, length}
+use Rattle.std.specs.Prelude.{◌≡◌, List, ℕ, ◌+◌, ◌*◌, ◌≤◌, length}
 use Rattle.engine.specs.declared.reply.Reply.{Reply}
 
 -- the most bytes of a question after its size

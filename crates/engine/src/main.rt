@@ -4,12 +4,13 @@
 mod bytes;
 mod dispatch;
 mod kinds;
+mod pipe;
 mod questions;
 mod reply;
 mod rows;
 mod serve;
 mod sizes;
 
-fn main() {
-    serve::serve();
+fn main(rt: HostRuntime) {
+    serve::serve(rt.stdin(), rt.stdout());
 }

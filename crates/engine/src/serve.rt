@@ -6,9 +6,10 @@ ghost use Rattle.engine.specs.Serving.{frame, most, Ready};
 use crate::bytes::{lay_eight, lay_four, lay_words, read_four};
 use crate::dispatch::ask;
 use crate::kinds::{ASKED, CUT_OFF, TOO_LONG};
+use crate::pipe::{read_full, write_all};
 use crate::reply::{Reply, unasked};
 use crate::sizes::{FRAME, HEAD, LONGEST, MOST, NUMBERS};
-use libc::{STDIN_FILENO, STDOUT_FILENO};
+use std::io::{Stdin, Stdout};
 
 // How often the loop over the questions turns at most: more often than any run lasts.
 const TURNS: u64 = 18446744073709551615;
@@ -43,23 +44,23 @@ fn lay_reply(reply: Reply, out: &[u16], size: usize, bytes: &mut [u8]) -> usize
 }
 
 // Answers a question: its numbers, and its bytes with the row written. Whether all was taken.
-fn answer(question: usize, size: usize, bytes: &mut [u8], out: &mut [u16]) -> bool
+fn answer(output: Stdout, question: usize, size: usize, bytes: &mut [u8], out: &mut [u16]) -> bool
     requires { (size ≤ most) × (length bytes.old ≡ frame) × (longest ≤ length out.old) }
 {
     let end = HEAD + size;
     let reply = ask(question, &bytes[HEAD..end], out);
     let kind = reply.kind;
     if kind != ASKED {
-        return say_fault(kind);
+        return say_fault(output, kind);
     }
     let begin = lay_reply(reply, out, size, bytes);
-    io::write_all(STDOUT_FILENO, &bytes[begin..end])
+    write_all(output, &bytes[begin..end])
 }
 
 // Says a fault in the framing: its kind, and that nothing follows. Whether all was taken.
-fn say_fault(kind: usize) -> bool {
+fn say_fault(output: Stdout, kind: usize) -> bool {
     let said = [(kind % 256) as u8, 0, 0, 0, 0, 0, 0, 0];
-    io::write_all(STDOUT_FILENO, &said)
+    write_all(output, &said)
 }
 
 // How many of so many bytes are read at once.
@@ -71,13 +72,13 @@ fn at_once(left: usize) -> usize
 }
 
 // Reads past so many bytes. Whether all came.
-fn pass_over(size: usize, bytes: &mut [u8]) -> bool
+fn pass_over(input: Stdin, size: usize, bytes: &mut [u8]) -> bool
     requires { length bytes.old ≡ frame }
 {
     let mut left = size;
     while left > 0 {
         let some = at_once(left);
-        let got = io::read_full(STDIN_FILENO, &mut bytes[0..some]);
+        let got = read_full(input, &mut bytes[0..some]);
         if got < some {
             return false;
         }
@@ -87,50 +88,50 @@ fn pass_over(size: usize, bytes: &mut [u8]) -> bool
 }
 
 // Reads a question's bytes into the frame. Whether all came.
-fn read_body(size: usize, bytes: &mut [u8]) -> bool
+fn read_body(input: Stdin, size: usize, bytes: &mut [u8]) -> bool
     requires { (size ≤ most) × (length bytes.old ≡ frame) }
 {
     let end = HEAD + size;
-    let got = io::read_full(STDIN_FILENO, &mut bytes[HEAD..end]);
+    let got = read_full(input, &mut bytes[HEAD..end]);
     got == size
 }
 
 // Reads one question and answers it. Whether to go on.
-fn serve_one(bytes: &mut [u8], out: &mut [u16]) -> bool
+fn serve_one(input: Stdin, output: Stdout, bytes: &mut [u8], out: &mut [u16]) -> bool
     requires { (length bytes.old ≡ frame) × (longest ≤ length out.old) }
 {
-    let got = io::read_full(STDIN_FILENO, &mut bytes[0..8]);
+    let got = read_full(input, &mut bytes[0..8]);
     if got == 0 {
         return false;
     }
     if got < 8 {
-        say_fault(CUT_OFF);
+        say_fault(output, CUT_OFF);
         return false;
     }
     let question = read_four(bytes, 0);
     let size = read_four(bytes, 4);
     if MOST < size {
-        if pass_over(size, bytes) {
-            return say_fault(TOO_LONG);
+        if pass_over(input, size, bytes) {
+            return say_fault(output, TOO_LONG);
         }
-        say_fault(CUT_OFF);
+        say_fault(output, CUT_OFF);
         return false;
     }
-    if read_body(size, bytes) {
-        return answer(question, size, bytes, out);
+    if read_body(input, size, bytes) {
+        return answer(output, question, size, bytes, out);
     }
-    say_fault(CUT_OFF);
+    say_fault(output, CUT_OFF);
     false
 }
 
 // Answers questions until the input ends, a question is cut off, or nobody reads the answers.
-pub fn serve() {
+pub fn serve(input: Stdin, output: Stdout) {
     let mut frame = [0u8; FRAME];
     let mut row = [0u16; LONGEST];
     let bytes: &mut [u8] = &mut frame;
     let out: &mut [u16] = &mut row;
     let mut turns = TURNS;
-    while turns > 0 && serve_one(bytes, out) {
+    while turns > 0 && serve_one(input, output, bytes, out) {
         turns -= 1;
     }
 }

@@ -207,9 +207,12 @@ front_in s (row ∷ rows) u m =
     further : InMap s rows u → InMap s (row ∷ rows) u
     further h = record { rest = h.rest; is = h.is; inside = Memᴰ.tail h.inside }
 
-pub front_all : (s : ℕ) (u rest : List ℕ) (rows : List (List ℕ)) → u ≡ s ∷ rest → Among rest rows → Among u (front s rows)
-front_all s u rest rows e (Memᴰ.head d) = Memᴰ.head (e ∙ ap (λ (row : List ℕ). s ∷ row) d)
-front_all s u rest rows e (Memᴰ.tail m) = Memᴰ.tail (front_all s u rest _ e m)
+fronted : (s : ℕ) (u rest : List ℕ) (rows : List (List ℕ)) → u ≡ s ∷ rest → Among rest rows → Among u (front s rows)
+fronted s u rest rows e (Memᴰ.head d) = Memᴰ.head (e ∙ ap (λ (row : List ℕ). s ∷ row) d)
+fronted s u rest rows e (Memᴰ.tail m) = Memᴰ.tail (fronted s u rest _ e m)
+
+pub front_all : (s : ℕ) (rows : List (List ℕ)) (u rest : List ℕ) → u ≡ s ∷ rest → Among rest rows → Among u (front s rows)
+front_all s rows u rest e m = fronted s u rest rows e m
 
 before_front : {n : ℕ} (s : ℕ) {a b : List ℕ} → Before n a b → Before (suc n) (s ∷ a) (s ∷ b)
 before_front {n} s {a} {b} x = record {
@@ -295,7 +298,7 @@ words_all zero b (s ∷ u) w = absurd (omega (arith, w.long))
 words_all (suc n) b [] w = absurd (omega (arith, w.long))
 words_all (suc n) b (s ∷ u) w =
     joined_all (λ s. front s (words n b)) b (s ∷ u) s (w.low 0 (omega arith)) (w.high 0 (omega arith))
-    (front_all s (s ∷ u) u (words n b) refl
+    (front_all s (words n b) (s ∷ u) u refl
     (words_all n b u
     (record {
       long = omega (arith, w.long);
