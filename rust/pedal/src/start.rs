@@ -1,5 +1,5 @@
-//! Starting the engine: on x86-64 directly, elsewhere as the kit's `rt` starts programs, under
-//! the kit's emulator and loader.
+//! Starting the engine: on x86-64 directly, elsewhere as a kit for that machine starts programs,
+//! under the kit's emulator and loader.
 
 use std::env;
 use std::ffi::OsString;
