@@ -46,12 +46,8 @@ fn all(
     say::word(rt, say::COLON)?;
     let mut out = [0u16; OPERATIONS];
     let counts = [units];
-    let mut more = told(
-        rt,
-        lister::first(delays, types, 1, from, to, &counts, bound, &mut out),
-        &out,
-        n,
-    )?;
+    let answer = lister::first(delays, types, 1, from, to, &counts, bound, &mut out);
+    let mut more = told(rt, answer, &out, n)?;
     let mut left = MOST;
     while more {
         if left == 0 {
@@ -59,23 +55,10 @@ fn all(
         }
         left -= 1;
         say::mark(rt, b' ')?;
-        let after = out;
-        more = told(
-            rt,
-            lister::next(
-                delays,
-                types,
-                1,
-                from,
-                to,
-                &counts,
-                bound,
-                &after[0..n],
-                &mut out,
-            ),
-            &out,
-            n,
-        )?;
+        let shown = out;
+        let after = &shown[0..n];
+        let answer = lister::next(delays, types, 1, from, to, &counts, bound, after, &mut out);
+        more = told(rt, answer, &out, n)?;
     }
     say::mark(rt, b'\n')
 }
@@ -199,13 +182,8 @@ fn folded(sum: u64, start: u16) -> u64 {
 // What the first n entries of a row make of a checksum.
 fn summed(sum: u64, row: &[u16; OPERATIONS], n: usize) -> u64 {
     let mut c = sum;
-    let mut i = 0;
-    while i < OPERATIONS {
-        if n <= i {
-            return c;
-        }
-        c = folded(c, row[i]);
-        i += 1;
+    for start in row.iter().take(n) {
+        c = folded(c, *start);
     }
     c
 }

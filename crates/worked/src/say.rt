@@ -33,16 +33,11 @@ pub fn case(rt: &impl Print, number_of: usize, question: &str) -> io::Result<()>
 
 // Writes the first n entries of a row, with a mark between them.
 pub fn row(rt: &impl Print, entries: &[u16], n: usize, between: u8) -> io::Result<()> {
-    let mut i = 0;
-    while i < entries.len() {
-        if n <= i {
-            return Ok(());
-        }
+    for (i, start) in entries.iter().take(n).enumerate() {
         if 0 < i {
             mark(rt, between)?;
         }
-        entry(rt, entries[i])?;
-        i += 1;
+        entry(rt, *start)?;
     }
     Ok(())
 }
