@@ -1,4 +1,4 @@
-// The eleven-operation graph of document 01.
+// The eleven-operation graph that many of the cases ask about.
 // How many operations it has.
 pub const MANY: usize = 11;
 

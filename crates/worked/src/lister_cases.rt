@@ -2,122 +2,112 @@
 use crate::{eleven, say};
 use model::Listed;
 use model::limits::OPERATIONS;
+use std::io;
 
 // The largest number of schedules that a listing here asks for.
 const MOST: usize = 1000;
 
 const PRIME: u64 = 1000000007;
 
-// The number of a word among those of `say`.
-const NONE_LEFT: usize = 14;
-
 // Writes what the lister answered, and says whether it was a schedule.
-fn told(answer: Listed, out: &[u16], n: usize) -> bool {
+fn told(rt: &impl Print, answer: Listed, out: &[u16], n: usize) -> io::Result<bool> {
     match answer {
         Listed::Found => {
-            say::mark(b'(');
-            say::row(out, n, b',');
-            say::mark(b')');
-            true
+            say::mark(rt, b'(')?;
+            say::row(rt, out, n, b',')?;
+            say::mark(rt, b')')?;
+            Ok(true)
         }
         Listed::NoneLeft => {
-            say::word(NONE_LEFT);
-            false
+            say::word(rt, "none left")?;
+            Ok(false)
         }
         Listed::Refused(why) => {
-            say::refusal(why, out);
-            false
+            say::refusal(rt, why, out)?;
+            Ok(false)
         }
     }
 }
 
 // Writes all schedules, one after another, until none is left.
-fn all(delays: &[u8], types: &[u8], from: &[u16], to: &[u16], units: u8, bound: usize) {
+fn all(
+    rt: &impl Print,
+    delays: &[u8],
+    types: &[u8],
+    from: &[u16],
+    to: &[u16],
+    units: u8,
+    bound: usize,
+) -> io::Result<()> {
     let n = delays.len();
     if OPERATIONS < n {
-        return;
+        return Ok(());
     }
-    say::word(say::COLON);
+    say::word(rt, say::COLON)?;
     let mut out = [0u16; OPERATIONS];
     let counts = [units];
-    let mut more = told(
-        lister::first(delays, types, 1, from, to, &counts, bound, &mut out),
-        &out,
-        n,
-    );
+    let answer = lister::first(delays, types, 1, from, to, &counts, bound, &mut out);
+    let mut more = told(rt, answer, &out, n)?;
     let mut left = MOST;
     while more {
         if left == 0 {
-            return;
+            return Ok(());
         }
         left -= 1;
-        say::mark(b' ');
-        let after = out;
-        more = told(
-            lister::next(
-                delays,
-                types,
-                1,
-                from,
-                to,
-                &counts,
-                bound,
-                &after[0..n],
-                &mut out,
-            ),
-            &out,
-            n,
-        );
+        say::mark(rt, b' ')?;
+        let shown = out;
+        let after = &shown[0..n];
+        let answer = lister::next(delays, types, 1, from, to, &counts, bound, after, &mut out);
+        more = told(rt, answer, &out, n)?;
     }
-    say::mark(b'\n');
+    say::mark(rt, b'\n')
 }
 
 // All schedules of n operations of delay 1 and one type, with no edge.
-fn apart(n: usize, units: u8, bound: usize) {
+fn apart(rt: &impl Print, n: usize, units: u8, bound: usize) -> io::Result<()> {
     if OPERATIONS < n {
-        return;
+        return Ok(());
     }
     let ones = [1u8; OPERATIONS];
     let zeros = [0u8; OPERATIONS];
     all(
+        rt,
         &ones[0..n],
         &zeros[0..n],
         &[0u16; 0],
         &[0u16; 0],
         units,
         bound,
-    );
+    )
 }
 
-// The number of a word among those of `say`.
-const ALL: usize = 5;
+// The question of all schedules.
+const ALL: &str = " all";
 
 // Case 9: two operations and so many units.
-fn ninth(units: u8) {
-    say::case(9, ALL);
-    say::mark(b' ');
-    say::entry(units as u16);
-    apart(2, units, 2);
+fn ninth(rt: &impl Print, units: u8) -> io::Result<()> {
+    say::case(rt, 9, ALL)?;
+    say::mark(rt, b' ')?;
+    say::entry(rt, units as u16)?;
+    apart(rt, 2, units, 2)
 }
 
 // Case 10: two operations of delay 1, an edge from the first to the second, two units and bound 3.
-fn tenth() {
-    say::case(10, ALL);
-    all(&[1u8, 1], &[0u8, 0], &[0u16], &[1u16], 2, 3);
+fn tenth(rt: &impl Print) -> io::Result<()> {
+    say::case(rt, 10, ALL)?;
+    all(rt, &[1u8, 1], &[0u8, 0], &[0u16], &[1u16], 2, 3)
 }
 
-// The number of a word among those of `say`.
-const NEXT: usize = 6;
-
 // Case 10: the schedule after a row.
-fn after(first: u16, second: u16) {
+fn after(rt: &impl Print, first: u16, second: u16) -> io::Result<()> {
     let mut out = [0u16; 2];
-    say::case(10, NEXT);
-    say::entry(first);
-    say::mark(b' ');
-    say::entry(second);
-    say::word(say::COLON);
+    say::case(rt, 10, " next ")?;
+    say::entry(rt, first)?;
+    say::mark(rt, b' ')?;
+    say::entry(rt, second)?;
+    say::word(rt, say::COLON)?;
     told(
+        rt,
         lister::next(
             &[1u8, 1],
             &[0u8, 0],
@@ -131,39 +121,37 @@ fn after(first: u16, second: u16) {
         ),
         &out,
         2,
-    );
-    say::mark(b'\n');
+    )?;
+    say::mark(rt, b'\n')
 }
 
 // Cases 8 to 11.
-pub fn small() {
-    say::case(8, ALL);
-    apart(0, 1, 0);
-    ninth(1);
-    ninth(2);
-    tenth();
-    after(1, 3);
-    after(0, 9);
-    after(65535, 65535);
-    say::case(11, ALL);
-    apart(3, 1, 2);
+pub fn small(rt: &impl Print) -> io::Result<()> {
+    say::case(rt, 8, ALL)?;
+    apart(rt, 0, 1, 0)?;
+    ninth(rt, 1)?;
+    ninth(rt, 2)?;
+    tenth(rt)?;
+    after(rt, 1, 3)?;
+    after(rt, 0, 9)?;
+    after(rt, 65535, 65535)?;
+    say::case(rt, 11, ALL)?;
+    apart(rt, 3, 1, 2)
 }
 
-// The number of a word among those of `say`.
-const FIRST: usize = 7;
-
 // Case 14: so many operations, and as many units.
-fn fourteenth(n: usize, units: u8) {
+fn fourteenth(rt: &impl Print, n: usize, units: u8) -> io::Result<()> {
     if OPERATIONS < n {
-        return;
+        return Ok(());
     }
     let ones = [1u8; OPERATIONS];
     let zeros = [0u8; OPERATIONS];
     let mut out = [0u16; OPERATIONS];
-    say::case(14, FIRST);
-    say::number(n);
-    say::word(say::COLON);
+    say::case(rt, 14, " first ")?;
+    say::number(rt, n)?;
+    say::word(rt, say::COLON)?;
     told(
+        rt,
         lister::first(
             &ones[0..n],
             &zeros[0..n],
@@ -176,14 +164,14 @@ fn fourteenth(n: usize, units: u8) {
         ),
         &out,
         n,
-    );
-    say::mark(b'\n');
+    )?;
+    say::mark(rt, b'\n')
 }
 
 // Case 14: the product of the windows at the limit, and past it.
-pub fn windows() {
-    fourteenth(19, 19);
-    fourteenth(20, 20);
+pub fn windows(rt: &impl Print) -> io::Result<()> {
+    fourteenth(rt, 19, 19)?;
+    fourteenth(rt, 20, 20)
 }
 
 // What one start makes of a checksum.
@@ -194,13 +182,8 @@ fn folded(sum: u64, start: u16) -> u64 {
 // What the first n entries of a row make of a checksum.
 fn summed(sum: u64, row: &[u16; OPERATIONS], n: usize) -> u64 {
     let mut c = sum;
-    let mut i = 0;
-    while i < OPERATIONS {
-        if n <= i {
-            return c;
-        }
-        c = folded(c, row[i]);
-        i += 1;
+    for start in row.iter().take(n) {
+        c = folded(c, *start);
     }
     c
 }
@@ -261,14 +244,8 @@ fn total(
     Summary { count, sum }
 }
 
-// The number of a word among those of `say`.
-const ELEVEN: usize = 10;
-
-// The number of a word among those of `say`.
-const SCHEDULES: usize = 22;
-
 // The eleven-operation graph at bound 5, units 2 and 2: the number of its schedules, and their checksum.
-pub fn eleven() {
+pub fn eleven(rt: &impl Print) -> io::Result<()> {
     let listed = total(
         &[1u8; eleven::MANY],
         &eleven::TYPES,
@@ -277,13 +254,13 @@ pub fn eleven() {
         &[2u8, 2],
         5,
     );
-    say::word(ELEVEN);
-    say::word(ALL);
-    say::mark(b' ');
-    say::number(5);
-    say::word(say::COLON);
-    say::number(listed.count);
-    say::word(SCHEDULES);
-    io::print_decimal(libc::STDOUT_FILENO, listed.sum);
-    say::mark(b'\n');
+    say::word(rt, "eleven")?;
+    say::word(rt, ALL)?;
+    say::mark(rt, b' ')?;
+    say::number(rt, 5)?;
+    say::word(rt, say::COLON)?;
+    say::number(rt, listed.count)?;
+    say::word(rt, " schedules, checksum ")?;
+    rt.print(listed.sum)?;
+    say::mark(rt, b'\n')
 }

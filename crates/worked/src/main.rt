@@ -1,5 +1,7 @@
-// The worked cases of document 01, run; what they write is kept beside this file and compared.
+// The worked cases, run; what they write is kept beside this file and compared.
 #![tactic(auto)]
+
+use std::io;
 
 mod eleven;
 mod lister_cases;
@@ -8,12 +10,13 @@ mod say;
 mod tables_cases;
 mod units_cases;
 
-fn main() {
-    tables_cases::eleven();
-    rule_cases::eleven();
-    tables_cases::cycles();
-    lister_cases::small();
-    units_cases::checks();
-    lister_cases::windows();
-    lister_cases::eleven();
+// Writes every case in turn, until one can no longer be written.
+fn main(rt: HostRuntime) -> io::Result<()> {
+    tables_cases::eleven(&rt)?;
+    rule_cases::eleven(&rt)?;
+    tables_cases::cycles(&rt)?;
+    lister_cases::small(&rt)?;
+    units_cases::checks(&rt)?;
+    lister_cases::windows(&rt)?;
+    lister_cases::eleven(&rt)
 }

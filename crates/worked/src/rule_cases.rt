@@ -2,33 +2,29 @@
 use crate::{eleven, say};
 use list_schedule::State;
 use model::{Answer, Scheduled};
-
-// The number of a word among those of `say`.
-const LATENCY: usize = 12;
+use std::io;
 
 // Writes what the list schedule answered: the latency and the row's first n entries, or the refusal.
-fn scheduled(answer: Scheduled, out: &[u16], n: usize) {
-    say::word(say::COLON);
+fn scheduled(rt: &impl Print, answer: Scheduled, out: &[u16], n: usize) -> io::Result<()> {
+    say::word(rt, say::COLON)?;
     match answer {
         Scheduled::Latency(latency) => {
-            say::word(LATENCY);
-            say::number(latency);
-            say::word(say::COLON);
-            say::row(out, n, b' ');
+            say::word(rt, "latency ")?;
+            say::number(rt, latency)?;
+            say::word(rt, say::COLON)?;
+            say::row(rt, out, n, b' ')?;
         }
-        Scheduled::Refused(why) => say::refusal(why, out),
+        Scheduled::Refused(why) => say::refusal(rt, why, out)?,
     }
-    say::mark(b'\n');
+    say::mark(rt, b'\n')
 }
 
-// The number of a word among those of `say`.
-const LIST: usize = 3;
-
 // A case of the list schedule.
-fn list(case: usize, delays: &[u8], types: &[u8], units: &[u8]) {
+fn list(rt: &impl Print, case: usize, delays: &[u8], types: &[u8], units: &[u8]) -> io::Result<()> {
     let mut out = [0u16; eleven::MANY];
-    say::case(case, LIST);
+    say::case(rt, case, " list")?;
     scheduled(
+        rt,
         list_schedule::list_schedule(
             delays,
             types,
@@ -40,28 +36,22 @@ fn list(case: usize, delays: &[u8], types: &[u8], units: &[u8]) {
         ),
         &out,
         eleven::MANY,
-    );
+    )
 }
-
-// The number of a word among those of `say`.
-const STEP: usize = 13;
 
 // Writes a state: its step and its first n starts.
-fn shown(state: State, n: usize) {
+fn shown(rt: &impl Print, state: State, n: usize) -> io::Result<()> {
     let starts = state.starts;
-    say::word(STEP);
-    say::number(state.step);
-    say::word(say::COLON);
-    say::row(&starts, n, b' ');
+    say::word(rt, "step ")?;
+    say::number(rt, state.step)?;
+    say::word(rt, say::COLON)?;
+    say::row(rt, &starts, n, b' ')
 }
 
-// The number of a word among those of `say`.
-const ADVANCE: usize = 4;
-
 // Case 3: the state after one advance from the fresh one.
-fn advanced() {
-    say::case(3, ADVANCE);
-    say::word(say::COLON);
+fn advanced(rt: &impl Print) -> io::Result<()> {
+    say::case(rt, 3, " advance")?;
+    say::word(rt, say::COLON)?;
     let after = State::fresh().advance(
         &[1u8; eleven::MANY],
         &eleven::TYPES,
@@ -70,28 +60,28 @@ fn advanced() {
         &eleven::TO,
         &[2u8, 2],
     );
-    let answer = after.answer;
-    match answer {
-        Answer::Done => shown(after.state, eleven::MANY),
-        Answer::Refused(why) => say::refusal(why, &[0u16; 0]),
+    match after.answer {
+        Answer::Done => shown(rt, after.state, eleven::MANY)?,
+        Answer::Refused(why) => say::refusal(rt, why, &[0u16; 0])?,
     }
-    say::mark(b'\n');
+    say::mark(rt, b'\n')
 }
 
 // Case 4: type 0 takes two steps.
-fn fourth() {
+fn fourth(rt: &impl Print) -> io::Result<()> {
     list(
+        rt,
         4,
         &[2u8, 2, 2, 1, 1, 2, 2, 2, 1, 1, 1],
         &eleven::TYPES,
         &[3u8, 1],
-    );
+    )
 }
 
 // The three cases.
-pub fn eleven() {
-    list(3, &[1u8; eleven::MANY], &eleven::TYPES, &[2u8, 2]);
-    advanced();
-    fourth();
-    list(5, &[1u8; eleven::MANY], &[0u8; eleven::MANY], &[3u8]);
+pub fn eleven(rt: &impl Print) -> io::Result<()> {
+    list(rt, 3, &[1u8; eleven::MANY], &eleven::TYPES, &[2u8, 2])?;
+    advanced(rt)?;
+    fourth(rt)?;
+    list(rt, 5, &[1u8; eleven::MANY], &[0u8; eleven::MANY], &[3u8])
 }
