@@ -1,7 +1,6 @@
 // The face for C: the ten functions of `pedal`, exported under the same names, each with the same contract.
 #![tactic(auto)]
 
-ghost use Rattle.std.specs.Prelude.{◌≡◌, length};
 ghost use Rattle.model.specs.Graph.{lent};
 ghost use Rattle.model.specs.Answers.{AsapAnswer, AlapAnswer, MobilityAnswer};
 ghost use Rattle.std.proofs.Math.Option.{none, some};
