@@ -1,5 +1,5 @@
--- What an answer says in 01's numbers, and what a question with an output row leaves behind: one frame for all of them.
-use Rattle.std.specs.Prelude.{◌≡◌, ◌⊎◌, List, [], ◌∷◌, ℕ, length}
+-- What an answer says in numbers, and what a question with an output row leaves behind: one frame for all of them.
+use Rattle.std.specs.Prelude.{◌≡◌, ◌⊎◌, List, [], ◌∷◌, ℕ, length, Result, Ok, Err}
 use Rattle.std.proofs.Math.Option.{Option, none, some}
 use Rattle.maths.specs.Rows.{over}
 use Rattle.model.specs.Graph.{Graph}
@@ -8,10 +8,8 @@ use Rattle.model.specs.Refusals.{Silent, Writes, Check, First}
 use Rattle.model.specs.Checks.{asap_checks, alap_checks}
 use Rattle.model.specs.declared.Refusal.{Refusal}
 use Rattle.model.specs.declared.Refusal.TheVariants.{TooLarge, Uneven, Operation, Edge, ShortOutput, NoUnit, Cycle, BoundTooLarge, BoundTooSmall, TooManyWindows, Step, Channel, Range}
-use Rattle.model.specs.declared.Answer.{Answer}
-use Rattle.model.specs.declared.Answer.TheVariants.{Done, Refused}
 
--- 01's number and place for each refusal
+-- the number and the place of each refusal
 abbrev pub numbered : Refusal → ℕ × ℕ
 numbered TooLarge = (1, 0)
 numbered Uneven = (2, 0)
@@ -28,9 +26,9 @@ numbered Channel = (12, 0)
 numbered Range = (13, 0)
 
 -- the refusal that an answer gives, if it gives one
-abbrev pub refusal_of : Answer → Option (ℕ × ℕ)
-refusal_of Done = none
-refusal_of (Refused r) = some (numbered r)
+abbrev pub refusal_of : {A : Type 0} → Result A Refusal → Option (ℕ × ℕ)
+refusal_of (Ok a) = none
+refusal_of (Err r) = some (numbered r)
 
 -- a row with `Is` fills the output's first entries, and the rest stays
 pub record Fills (Is : List ℕ → Type 0) (before after : List ℕ) : Type 0 where
@@ -59,16 +57,20 @@ pub record Answered (checks : List Check) (before : List ℕ) (Given : List ℕ 
   pub first : First checks refusal
   pub row : RowAfter checks before Given refusal after
 
+-- the answer of a question that gives nothing but a filled row: done, or refused
+abbrev pub Done : Type 0
+Done = Result (Unit {0}) Refusal
+
 -- what `asap` answers and leaves
-abbrev pub AsapAnswer : Graph → List ℕ → Answer → List ℕ → Type 0
+abbrev pub AsapAnswer : Graph → List ℕ → Done → List ℕ → Type 0
 AsapAnswer g out r after = Answered (asap_checks g (length out)) out (Fills (Asap g) out) (refusal_of r) after
 
 -- what `alap` answers and leaves
-abbrev pub AlapAnswer : Graph → ℕ → List ℕ → Answer → List ℕ → Type 0
+abbrev pub AlapAnswer : Graph → ℕ → List ℕ → Done → List ℕ → Type 0
 AlapAnswer g bound out r after =
     Answered (alap_checks g bound (length out)) out (Fills (Alap g bound) out) (refusal_of r) after
 
 -- what `mobility` answers and leaves
-abbrev pub MobilityAnswer : Graph → ℕ → List ℕ → Answer → List ℕ → Type 0
+abbrev pub MobilityAnswer : Graph → ℕ → List ℕ → Done → List ℕ → Type 0
 MobilityAnswer g bound out r after =
     Answered (alap_checks g bound (length out)) out (Fills (Mobility g bound) out) (refusal_of r) after

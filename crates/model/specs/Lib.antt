@@ -15,3 +15,4 @@ pub mod Verdicts
 pub mod Rule
 pub mod Scheduling
 pub mod Listing
+pub mod Lent

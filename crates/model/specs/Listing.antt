@@ -1,5 +1,5 @@
 -- All lawful schedules, in increasing order; and what the lister gives, for every input.
-use Rattle.std.specs.Prelude.{◌≡◌, Bool, List, [], ◌∷◌, ℕ, ◌+◌, leb, length}
+use Rattle.std.specs.Prelude.{◌≡◌, Bool, List, [], ◌∷◌, ℕ, ◌+◌, leb, length, Result, Ok, Err}
 use Rattle.std.proofs.Math.Option.{Option, none, some}
 use Rattle.maths.specs.Tests.{◌and◌}
 use Rattle.maths.specs.Rows.{at}
@@ -9,8 +9,9 @@ use Rattle.model.specs.Order.{source, target}
 use Rattle.model.specs.Graph.{Graph, order, many, edges_of, delay}
 use Rattle.model.specs.Use.{running, Lawful}
 use Rattle.model.specs.Checks.{lister_checks}
-use Rattle.model.specs.Answers.{numbered, Fills, Answered}
-use Rattle.model.specs.declared.Listed as listed
+use Rattle.model.specs.Answers.{refusal_of, Fills, Answered}
+use Rattle.model.specs.declared.Refusal.{Refusal}
+use Rattle.model.specs.declared.Listed.{Listed}
 use Rattle.model.specs.declared.Listed.TheVariants as answers
 
 -- ---- the list
@@ -43,27 +44,21 @@ pub record NoneLeft (g : Graph) (units : List ℕ) (bound : ℕ) (asked : Option
   pub none_later : (u : List ℕ) → Lawful g units bound u → Later (many g) asked u → ⊥
 
 -- ---- the answers
--- the refusal that the answer gives, if it gives one
-abbrev pub refusal_in_listed : listed.Listed → Option (ℕ × ℕ)
-refusal_in_listed answers.Found = none
-refusal_in_listed answers.NoneLeft = none
-refusal_in_listed (answers.Refused why) = some (numbered why)
-
 -- none is left, and the output row stays as it was
 pub record Ended (g : Graph) (units : List ℕ) (bound : ℕ) (asked : Option (List ℕ)) (before after : List ℕ) : Type 0 where
   pub none : NoneLeft g units bound asked
   pub kept : after ≡ before
 
 -- what an answer that is no refusal leaves: the least schedule in the row's first entries, or none left
-unfoldable pub Gives : Graph → List ℕ → ℕ → Option (List ℕ) → List ℕ → listed.Listed → List ℕ → Type 0
-Gives g units bound asked before answers.Found after = Fills (Least g units bound asked) before after
-Gives g units bound asked before answers.NoneLeft after = Ended g units bound asked before after
-Gives g units bound asked before (answers.Refused why) after = Unit {0}
+unfoldable pub Gives : Graph → List ℕ → ℕ → Option (List ℕ) → List ℕ → Result Listed Refusal → List ℕ → Type 0
+Gives g units bound asked before (Ok answers.Found) after = Fills (Least g units bound asked) before after
+Gives g units bound asked before (Ok answers.NoneLeft) after = Ended g units bound asked before after
+Gives g units bound asked before (Err why) after = Unit {0}
 
 -- what `first` (asked after none) and `next` (asked after a row) answer and leave
-abbrev pub ListerAnswer : Graph → List ℕ → ℕ → Option (List ℕ) → List ℕ → listed.Listed → List ℕ → Type 0
+abbrev pub ListerAnswer : Graph → List ℕ → ℕ → Option (List ℕ) → List ℕ → Result Listed Refusal → List ℕ → Type 0
 ListerAnswer g units bound asked out r after =
-    Answered (lister_checks g units bound asked (length out)) out (Gives g units bound asked out r) (refusal_in_listed r) after
+    Answered (lister_checks g units bound asked (length out)) out (Gives g units bound asked out r) (refusal_of r) after
 
 -- ---- demand 3
 -- what asking gives, from a schedule on: itself, then the next, and so on until none is left

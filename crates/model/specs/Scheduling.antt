@@ -1,26 +1,20 @@
 -- What the list schedule and its advance answer, for every input.
-use Rattle.std.specs.Prelude.{◌≡◌, List, ℕ, ◌+◌, length}
+use Rattle.std.specs.Prelude.{◌≡◌, List, ℕ, ◌+◌, length, Result, Ok, Err}
 use Rattle.std.proofs.Math.Option.{Option, none, some}
 use Rattle.maths.specs.Rows.{over}
 use Rattle.model.specs.Graph.{Graph, order}
 use Rattle.model.specs.Tables.{Latency}
 use Rattle.model.specs.Refusals.{First}
 use Rattle.model.specs.Checks.{list_checks, advance_checks}
-use Rattle.model.specs.Answers.{numbered, Answered}
+use Rattle.model.specs.Answers.{refusal_of, Answered}
 use Rattle.model.specs.Rule.{Labels, label_order, stepped, AllPlaced, ListStarts}
-use Rattle.model.specs.declared.Scheduled as scheduled
-use Rattle.model.specs.declared.Scheduled.TheVariants as answers
+use Rattle.model.specs.declared.Refusal.{Refusal}
 
 -- ---- the list schedule
--- the refusal that the answer gives, if it gives one
-abbrev pub refusal_in_scheduled : scheduled.Scheduled → Option (ℕ × ℕ)
-refusal_in_scheduled (answers.Latency l) = none
-refusal_in_scheduled (answers.Refused why) = some (numbered why)
-
 -- the latency that the answer gives
-abbrev pub latency_in : scheduled.Scheduled → ℕ
-latency_in (answers.Latency l) = l
-latency_in (answers.Refused why) = 0
+abbrev pub latency_in : Result ℕ Refusal → ℕ
+latency_in (Ok l) = l
+latency_in (Err why) = 0
 
 -- the list schedule's starts fill the output's first entries, and the rest stays; l is their latency
 pub record ListGiven (g : Graph) (units before : List ℕ) (l : ℕ) (after : List ℕ) : Type 0 where
@@ -30,9 +24,9 @@ pub record ListGiven (g : Graph) (units before : List ℕ) (l : ℕ) (after : Li
   pub written : after ≡ over starts before
 
 -- what `list_schedule` answers and leaves
-abbrev pub ListAnswer : Graph → List ℕ → List ℕ → scheduled.Scheduled → List ℕ → Type 0
+abbrev pub ListAnswer : Graph → List ℕ → List ℕ → Result ℕ Refusal → List ℕ → Type 0
 ListAnswer g units out r after =
-    Answered (list_checks g units (length out)) out (ListGiven g units out (latency_in r)) (refusal_in_scheduled r) after
+    Answered (list_checks g units (length out)) out (ListGiven g units out (latency_in r)) (refusal_of r) after
 
 -- ---- the advance
 -- the rule at the state's step, and one step further on

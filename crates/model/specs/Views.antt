@@ -1,7 +1,11 @@
 -- Views of the two channels' start tables: a part of the table asked for, that table's own memory and never the other's.
 use Rattle.std.specs.Prelude.{◌≡◌, ℕ, ◌+◌, ◌*◌, take, drop}
 use Rattle.std.proofs.Math.Option.{Option, none, some}
+use Rattle.std.specs.declared.option.Option as rust
+use Rattle.std.specs.declared.option.Option.TheVariants.{None, Some}
 use Rattle.model.specs.Refusals.{First}
+use Rattle.model.specs.Answers.{numbered}
+use Rattle.model.specs.declared.Refusal.{Refusal}
 use Rattle.model.specs.Channels.{Table, chosen}
 use Rattle.model.specs.Checks.{view_checks}
 
@@ -21,13 +25,11 @@ pub record Viewed (a b : Table) (channel first count : ℕ) (r : Table) : Type 0
   pub checked : First (view_checks a b channel first count) refusal
   pub part : PartAfter (chosen a b channel) first count refusal r
 
--- a refusal's number, and 0 for none
-abbrev pub number_or0 : Option (ℕ × ℕ) → ℕ
-number_or0 none = 0
-number_or0 (some r) = r.0
+-- the refusal's number and place, where there is one
+abbrev pub named : rust.Option Refusal → Option (ℕ × ℕ)
+named None = none
+named (Some why) = some (numbered why)
 
 -- what `view_refusal` says
-pub record ViewRefusal (a b : Table) (channel first count number : ℕ) : Type 0 where
-  pub refusal : Option (ℕ × ℕ)
-  pub checked : First (view_checks a b channel first count) refusal
-  pub is : number ≡ number_or0 refusal
+abbrev pub ViewRefusal : Table → Table → ℕ → ℕ → ℕ → rust.Option Refusal → Type 0
+ViewRefusal a b channel first count r = First (view_checks a b channel first count) (named r)

@@ -1,12 +1,15 @@
-// What every answer is made of: the limits and the types of answers. What they mean is in specs/.
+// What every question is made of: the limits, the rows that are lent, and the types of answers. What they mean is in specs/.
 #![tactic(auto)]
 
+pub mod graph;
 pub mod limits;
+pub mod order;
+pub mod work;
 
 ghost use Rattle.std.specs.Prelude.{◌≡◌};
 ghost use Rattle.model.specs.Answers.{numbered};
 
-// Why a question is refused, in the order of document 01's table.
+// Why a question is refused, in the order in which the reasons are looked for.
 #[derive(Clone, Copy)]
 pub enum Refusal {
     TooLarge,
@@ -25,7 +28,7 @@ pub enum Refusal {
 }
 
 impl Refusal {
-    // 01's number.
+    // Its number in the table of refusals.
     pub fn number(self) -> usize
         ensures { result ≡ (numbered self).0 }
     {
@@ -46,7 +49,7 @@ impl Refusal {
         }
     }
 
-    // 01's place: the operation, edge or type at fault, or the cycle's length.
+    // Its place there: the operation, edge or type at fault, or the cycle's length.
     pub fn place(self) -> usize
         ensures { result ≡ (numbered self).1 }
     {
@@ -68,48 +71,19 @@ impl Refusal {
     }
 }
 
-// The answer of a question whose value is a row, or that only tests: done, or refused.
-#[derive(Clone, Copy)]
-pub enum Answer {
-    Done,
-    Refused(Refusal),
-}
-
-// What the checker finds: lawful; a start of 0 or a finish past the bound, with its operation; a broken edge, with its number;
-// over-use, with its step and type; or why it was not asked.
+// What the checker finds in a schedule: lawful; a start of 0 or a finish past the bound, with its operation; a broken edge, with its number;
+// over-use, with its step and type.
 #[derive(Clone, Copy)]
 pub enum Finding {
     Lawful,
     Untimely(usize),
     Broken(usize),
     OverUse(usize, usize),
-    Refused(Refusal),
 }
 
-// The checker's answer.
-#[derive(Clone, Copy)]
-pub struct Verdict {
-    pub finding: Finding,
-}
-
-// Peak use: the answer, and beside it a number for each type, zeros when refused.
-#[derive(Clone, Copy)]
-pub struct Peaks {
-    pub answer: Answer,
-    pub counts: [usize; limits::KINDS],
-}
-
-// The list schedule's answer.
-#[derive(Clone, Copy)]
-pub enum Scheduled {
-    Latency(usize),
-    Refused(Refusal),
-}
-
-// The lister's answer.
+// What the lister finds: a schedule, or that none is left.
 #[derive(Clone, Copy)]
 pub enum Listed {
     Found,
     NoneLeft,
-    Refused(Refusal),
 }

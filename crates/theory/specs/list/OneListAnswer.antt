@@ -1,5 +1,5 @@
 -- What the list schedule's checks leave; the list schedule and its advance have one answer for each input.
-use Rattle.std.specs.Prelude.{◌≡◌, refl, ◌⊎◌, List, ◌++◌, ℕ, ◌≤◌, ◌<◌, eqb, length}
+use Rattle.std.specs.Prelude.{◌≡◌, refl, ◌⊎◌, List, ◌++◌, ℕ, ◌≤◌, ◌<◌, eqb, length, Result, Ok, Err}
 use Rattle.std.proofs.Common.{sym, ap, subst, ◌∙◌, inl, inr, ⊎_elim, arith, eq-eqb, eqb-true}
 use Rattle.std.proofs.Math.Option.{Option, none, some}
 use Rattle.maths.specs.Cases.{none_some, some_one}
@@ -12,8 +12,7 @@ use Rattle.model.specs.Refusals.{First, shape, output, unitless, cyclic, Outside
 use Rattle.model.specs.Rule.{AllPlaced}
 use Rattle.model.specs.Scheduling.{ListGiven, ListAnswer, Moves, Stays, StateAfter, AdvanceAnswer}
 use Rattle.model.specs.Checks.{list_checks, advance_checks}
-use Rattle.model.specs.declared.Scheduled as scheduled
-use Rattle.model.specs.declared.Scheduled.TheVariants as answers
+use Rattle.model.specs.declared.Refusal.{Refusal}
 use Rattle.theory.specs.refusals.OneRefusal.{Ones, first_one, flat_one, ones_single, ones_append, graph_unit_ones, front_unit_ones}
 use Rattle.theory.specs.refusals.SoundGraph.{has_unit, closed}
 use Rattle.theory.specs.refusals.RefusalNumbers.{numbered_one}
@@ -74,19 +73,19 @@ given_one g units before l m a b x y =
     )
 
 -- any two outcomes that the list schedule's contract allows are equal, answer and row
-pub list_answer_one : (g : Graph) (units out : List ℕ) (r s : scheduled.Scheduled) (a b : List ℕ)
+pub list_answer_one : (g : Graph) (units out : List ℕ) (r s : Result ℕ Refusal) (a b : List ℕ)
     → ListAnswer g units out r a → ListAnswer g units out s b → (r ≡ s) × (a ≡ b)
-list_answer_one g units out (answers.Latency l) (answers.Latency m) a b x y =
+list_answer_one g units out (Ok l) (Ok m) a b x y =
     let same = given_one g units out l m a b (row_is (list_checks g units (length out)) out (ListGiven g units out l) a x.row) (row_is (list_checks g units (length out)) out (ListGiven g units out m) b y.row) in
-    (ap answers.Latency same.0, same.1)
-list_answer_one g units out (answers.Latency l) (answers.Refused w) a b x y =
+    (ap Ok same.0, same.1)
+list_answer_one g units out (Ok l) (Err w) a b x y =
     absurd (none_some (first_one (list_checks g units (length out)) (list_ones g units (length out)) _ _ x.first y.first))
-list_answer_one g units out (answers.Refused w) (answers.Latency m) a b x y =
+list_answer_one g units out (Err w) (Ok m) a b x y =
     absurd (none_some (first_one (list_checks g units (length out)) (list_ones g units (length out)) _ _ y.first x.first))
-list_answer_one g units out (answers.Refused v) (answers.Refused w) a b x y =
+list_answer_one g units out (Err v) (Err w) a b x y =
     let both = answered_one (list_checks g units (length out)) out (ListGiven g units out 0) (list_ones g units (length out)) _ _ a b
     (λ p q. (given_one g units out 0 0 a b p q).1) x y in
-    (ap answers.Refused (numbered_one v w (some_one both.0)), both.1)
+    (ap Err (numbered_one v w (some_one both.0)), both.1)
 
 -- all are placed, or not
 pub all_or_not : (g : Graph) (t : List ℕ) → AllPlaced g t ⊎ (AllPlaced g t → ⊥)

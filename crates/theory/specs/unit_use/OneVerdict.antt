@@ -1,7 +1,7 @@
 -- Each fault rules a lawful schedule out, and the checker and peak use have one answer each.
-use Rattle.std.specs.Prelude.{◌≡◌, List, ℕ, ◌+◌, ◌≤◌, ◌<◌, length}
+use Rattle.std.specs.Prelude.{◌≡◌, List, ℕ, ◌+◌, ◌≤◌, ◌<◌, length, Result, Ok, Err}
 use Rattle.std.proofs.Math.Path.{refl, ap}
-use Rattle.std.proofs.Common.{sym, ap₂, ◌∙◌, arith}
+use Rattle.std.proofs.Common.{sym, ap₂, subst, ◌∙◌, arith}
 use Rattle.std.proofs.Math.Option.{Option, none, some}
 use Rattle.maths.specs.Cases.{at_most, none_some, some_one}
 use Rattle.maths.specs.Rows.{at, same_row}
@@ -11,16 +11,14 @@ use Rattle.model.specs.Graph.{Graph, order, many, edges_of, delay}
 use Rattle.model.specs.Answers.{refusal_of}
 use Rattle.model.specs.Use.{Lawful}
 use Rattle.model.specs.Faults as fault
-use Rattle.model.specs.Verdicts.{refusal_in_finding, Finds, Checked, Counts, PeakAnswer}
+use Rattle.model.specs.Verdicts.{Finds, Reports, Checked, AllPeaks, Counts, PeakAnswer}
 use Rattle.model.specs.Checks.{check_checks, peak_checks}
 use Rattle.model.specs.declared.Finding as finding
 use Rattle.model.specs.declared.Finding.TheVariants as found
-use Rattle.model.specs.declared.Verdict.{Verdict}
-use Rattle.model.specs.declared.Answer.{Answer}
-use Rattle.model.specs.declared.Peaks.{Peaks}
+use Rattle.model.specs.declared.Refusal.{Refusal}
 use Rattle.theory.specs.refusals.OneRefusal.{Ones, first_one, ones_append, shape_ones, unitless_ones}
 use Rattle.theory.specs.refusals.CycleAndBounds.{cyclic_ones, large_bound_ones}
-use Rattle.theory.specs.refusals.RefusalNumbers.{numbered_one, refusal_one}
+use Rattle.theory.specs.refusals.RefusalNumbers.{answers_one}
 use Rattle.theory.specs.unit_use.RunningAndPeak.{peak_one}
 
 -- numbers of which neither is below the other
@@ -73,42 +71,26 @@ module _ (g : Graph) (units : List ℕ) (bound : ℕ) (t : List ℕ) where
       ap₂ found.OverUse step kind
 
   -- what is found is one finding
-  pub finds_one : (f h : finding.Finding) → refusal_in_finding f ≡ refusal_in_finding h → Finds g units bound t f → Finds g units bound t h → f ≡ h
+  pub finds_one : (f h : finding.Finding) → Finds g units bound t f → Finds g units bound t h → f ≡ h
   unfolding Finds
-  finds_one found.Lawful found.Lawful e a b = refl
-  finds_one found.Lawful (found.Untimely i) e a b = absurd (lawful_timely a i b.inside b.holds)
-  finds_one found.Lawful (found.Broken i) e a b = absurd (lawful_unbroken a i b.1.inside b.1.holds)
-  finds_one found.Lawful (found.OverUse l k) e a b = absurd (lawful_room a l k b.1.over)
-  finds_one found.Lawful (found.Refused y) e a b = absurd (none_some e)
-  finds_one (found.Untimely i) found.Lawful e a b = absurd (lawful_timely b i a.inside a.holds)
-  finds_one (found.Untimely i) (found.Untimely j) e a b = ap found.Untimely (lowest_one _ _ i j a b)
-  finds_one (found.Untimely i) (found.Broken j) e a b = absurd (b.0 i a.inside a.holds)
-  finds_one (found.Untimely i) (found.OverUse l k) e a b = absurd (b.0.operations i a.inside a.holds)
-  finds_one (found.Untimely i) (found.Refused y) e a b = absurd (none_some e)
-  finds_one (found.Broken i) found.Lawful e a b = absurd (lawful_unbroken b i a.1.inside a.1.holds)
-  finds_one (found.Broken i) (found.Untimely j) e a b = absurd (a.0 j b.inside b.holds)
-  finds_one (found.Broken i) (found.Broken j) e a b = ap found.Broken (lowest_one _ _ i j a.1 b.1)
-  finds_one (found.Broken i) (found.OverUse l k) e a b = absurd (b.0.edges i a.1.inside a.1.holds)
-  finds_one (found.Broken i) (found.Refused y) e a b = absurd (none_some e)
-  finds_one (found.OverUse l k) found.Lawful e a b = absurd (lawful_room b l k a.1.over)
-  finds_one (found.OverUse l k) (found.Untimely j) e a b = absurd (a.0.operations j b.inside b.holds)
-  finds_one (found.OverUse l k) (found.Broken j) e a b = absurd (a.0.edges j b.1.inside b.1.holds)
-  finds_one (found.OverUse l k) (found.OverUse m j) e a b = over_one l k m j a.1 b.1
-  finds_one (found.OverUse l k) (found.Refused y) e a b = absurd (none_some e)
-  finds_one (found.Refused x) found.Lawful e a b = absurd (none_some (sym e))
-  finds_one (found.Refused x) (found.Untimely j) e a b = absurd (none_some (sym e))
-  finds_one (found.Refused x) (found.Broken j) e a b = absurd (none_some (sym e))
-  finds_one (found.Refused x) (found.OverUse m j) e a b = absurd (none_some (sym e))
-  finds_one (found.Refused x) (found.Refused y) e a b = ap found.Refused (numbered_one x y (some_one e))
+  finds_one found.Lawful found.Lawful a b = refl
+  finds_one found.Lawful (found.Untimely i) a b = absurd (lawful_timely a i b.inside b.holds)
+  finds_one found.Lawful (found.Broken i) a b = absurd (lawful_unbroken a i b.1.inside b.1.holds)
+  finds_one found.Lawful (found.OverUse l k) a b = absurd (lawful_room a l k b.1.over)
+  finds_one (found.Untimely i) found.Lawful a b = absurd (lawful_timely b i a.inside a.holds)
+  finds_one (found.Untimely i) (found.Untimely j) a b = ap found.Untimely (lowest_one _ _ i j a b)
+  finds_one (found.Untimely i) (found.Broken j) a b = absurd (b.0 i a.inside a.holds)
+  finds_one (found.Untimely i) (found.OverUse l k) a b = absurd (b.0.operations i a.inside a.holds)
+  finds_one (found.Broken i) found.Lawful a b = absurd (lawful_unbroken b i a.1.inside a.1.holds)
+  finds_one (found.Broken i) (found.Untimely j) a b = absurd (a.0 j b.inside b.holds)
+  finds_one (found.Broken i) (found.Broken j) a b = ap found.Broken (lowest_one _ _ i j a.1 b.1)
+  finds_one (found.Broken i) (found.OverUse l k) a b = absurd (b.0.edges i a.1.inside a.1.holds)
+  finds_one (found.OverUse l k) found.Lawful a b = absurd (lawful_room b l k a.1.over)
+  finds_one (found.OverUse l k) (found.Untimely j) a b = absurd (a.0.operations j b.inside b.holds)
+  finds_one (found.OverUse l k) (found.Broken j) a b = absurd (a.0.edges j b.1.inside b.1.holds)
+  finds_one (found.OverUse l k) (found.OverUse m j) a b = over_one l k m j a.1 b.1
 
 -- ---- one answer
--- an answer by its parts
-abbrev verdict : finding.Finding → Verdict
-verdict f = record { finding = f }
-
-abbrev peaks : Answer → List ℕ → Peaks
-peaks r c = record { answer = r; counts = c }
-
 -- each of the checker's refusals says one thing at most, and each of peak use's
 pub check_ones : (g : Graph) (units : List ℕ) (bound : ℕ) (t : List ℕ) → Ones (check_checks g units bound t)
 check_ones g units bound t =
@@ -120,29 +102,31 @@ pub peak_ones : (g : Graph) (t : List ℕ) → Ones (peak_checks g t)
 peak_ones g t = ones_append _ _ (shape_ones g _) (cyclic_ones (order g))
 
 -- any two answers that the checker may give are one
-pub checked_one : (g : Graph) (units : List ℕ) (bound : ℕ) (t : List ℕ) (v w : Verdict) → Checked g units bound t v → Checked g units bound t w → v ≡ w
+pub checked_one : (g : Graph) (units : List ℕ) (bound : ℕ) (t : List ℕ) (v w : Result finding.Finding Refusal) → Checked g units bound t v
+    → Checked g units bound t w → v ≡ w
+unfolding Reports
 checked_one g units bound t v w a b =
-    let same : v.finding ≡ w.finding =
-    finds_one g units bound t v.finding w.finding
+    answers_one v w
+    (λ x y p q.
+    finds_one g units bound t x y
+    (subst (λ (r : Result finding.Finding Refusal). Reports g units bound t r) p a.finds)
+    (subst (λ (r : Result finding.Finding Refusal). Reports g units bound t r) q b.finds))
     (first_one (check_checks g units bound t) (check_ones g units bound t) _ _ a.first b.first)
-    a.finds
-    b.finds in
-    ap verdict same
 
 -- ---- peak use has one answer
--- the four numbers are one row
-pub counts_one : (g : Graph) (t : List ℕ) (r : Option (ℕ × ℕ)) (c d : List ℕ) → length c ≡ limit.kinds → length d ≡ limit.kinds
-    → Counts g t r c → Counts g t r d → c ≡ d
-unfolding Counts
-counts_one g t none c d m n a b =
-    same_row c d (m ∙ sym n) (λ k l. peak_one g t k _ _ (a k (omega arith)) (b k (omega arith)))
-counts_one g t (some why) c d m n a b = a ∙ sym b
+-- the numbers are one row
+pub peaks_one : (g : Graph) (t c d : List ℕ) → AllPeaks g t c → AllPeaks g t d → c ≡ d
+peaks_one g t c d a b =
+    same_row c d (a.long ∙ sym b.long)
+    (λ k l. let inside : k < limit.kinds = rw (← a.long) l in peak_one g t k _ _ (a.each k inside) (b.each k inside))
 
 -- any two answers that peak use may give are one
-pub peak_answer_one : (g : Graph) (t : List ℕ) (p q : Peaks) → PeakAnswer g t p → PeakAnswer g t q → p ≡ q
+pub peak_answer_one : (g : Graph) (t : List ℕ) (p q : Result (List ℕ) Refusal) → PeakAnswer g t p → PeakAnswer g t q → p ≡ q
+unfolding Counts
 peak_answer_one g t p q a b =
-    let refusal = first_one (peak_checks g t) (peak_ones g t) _ _ a.first b.first in
-    let answer = refusal_one p.answer q.answer refusal in
-    let counts : p.counts ≡ q.counts =
-    counts_one g t (refusal_of q.answer) p.counts q.counts a.long b.long (rw refusal at a.counts) b.counts in
-    ap₂ peaks answer counts
+    answers_one p q
+    (λ x y e f.
+    peaks_one g t x y
+    (subst (λ (r : Result (List ℕ) Refusal). Counts g t r) e a.counts)
+    (subst (λ (r : Result (List ℕ) Refusal). Counts g t r) f b.counts))
+    (first_one (peak_checks g t) (peak_ones g t) _ _ a.first b.first)

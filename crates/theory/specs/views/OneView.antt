@@ -3,8 +3,13 @@ use Rattle.std.specs.Prelude.{◌≡◌, refl, ◌⊎◌, ℕ, ◌+◌, ◌<◌,
 use Rattle.std.proofs.Common.{sym, ap, subst, ◌∙◌, ⊎_elim, arith}
 use Rattle.std.proofs.Math.Logic.{inl, inr}
 use Rattle.std.proofs.Math.Option.{Option, none, some}
+use Rattle.std.specs.declared.option.Option as rust
+use Rattle.std.specs.declared.option.Option.TheVariants.{None, Some}
+use Rattle.maths.specs.Cases.{none_some, some_one}
 use Rattle.model.specs.Refusals.{First, NoChannel}
-use Rattle.model.specs.Views.{PartOf, PartAfter, Viewed, number_or0, ViewRefusal}
+use Rattle.model.specs.declared.Refusal.{Refusal}
+use Rattle.theory.specs.refusals.RefusalNumbers.{numbered_one}
+use Rattle.model.specs.Views.{PartOf, PartAfter, Viewed, named, ViewRefusal}
 use Rattle.model.specs.Channels.{Table, chosen}
 use Rattle.model.specs.Checks.{view_checks}
 use Rattle.theory.specs.refusals.OneRefusal.{Ones, first_one, flat_one}
@@ -35,6 +40,13 @@ named_not_none h n = ⊎_elim n.not_a n.not_b h
 -- a table, a first entry and a count leave one part
 part_one : {t : Table} {first count : ℕ} (r r' : Table) → PartOf t first count r → PartOf t first count r' → SamePart r r'
 part_one r r' p q = record { contents = p.contents ∙ sym q.contents; place = p.place ∙ sym q.place }
+
+-- refusals that are named alike are alike
+named_one : (n m : rust.Option Refusal) → named n ≡ named m → n ≡ m
+named_one None None e = refl
+named_one None (Some w) e = absurd (none_some e)
+named_one (Some v) None e = absurd (none_some (sym e))
+named_one (Some v) (Some w) e = ap Some (numbered_one v w (some_one e))
 
 module _ (a b : Table) (channel first count : ℕ) where
   -- an available part passes both checks
@@ -73,7 +85,6 @@ module _ (a b : Table) (channel first count : ℕ) where
       (subst (λ (why : Option (ℕ × ℕ)). PartAfter (chosen a b channel) first count why r')
       (view_checks_one w.refusal v.refusal w.checked v.checked) w.part)
 
-  -- any two numbers that the contract allows are equal
-  pub view_refusal_one : (n m : ℕ) → ViewRefusal a b channel first count n → ViewRefusal a b channel first count m → n ≡ m
-  view_refusal_one n m v w =
-      v.is ∙ ap number_or0 (view_checks_one v.refusal w.refusal v.checked w.checked) ∙ sym w.is
+  -- any two refusals that the contract allows are equal
+  pub view_refusal_one : (n m : rust.Option Refusal) → ViewRefusal a b channel first count n → ViewRefusal a b channel first count m → n ≡ m
+  view_refusal_one n m v w = named_one n m (view_checks_one (named n) (named m) v w)
