@@ -3,7 +3,8 @@
 
 ghost use Rattle.std.specs.Prelude.{◌≡◌, ◌-◌, ◌≤◌, ◌<◌, length};
 ghost use Rattle.model.specs.Limits as limit;
-ghost use Rattle.model.specs.Order.{ordered, Closed, Cyclic};
+ghost use Rattle.model.specs.Order.{Cyclic, size};
+ghost use Rattle.model.specs.Lent.{order_in};
 ghost use Rattle.theory.specs.cycle.LowestPredecessors.{Lower, Backed};
 ghost use Rattle.theory.specs.cycle.WalkUntilMetAgain.{NeverLeaves, MetAgain};
 ghost use Rattle.theory.specs.cycle.TurnedRound.{Turned};
@@ -12,6 +13,7 @@ ghost use Rattle.cycle.specs.Show.{KeptAt, Shows};
 ghost use Rattle.cycle.specs.Parts.{Blank, EndsInside, FirstBlank, Trailed, Span, PartOfRound};
 
 use model::limits::OPERATIONS;
+use model::order::Order;
 
 // The lower of two numbers, where the new one counts only if its start is 0.
 fn lower(start: u16, new: u16, old: u16) -> u16
@@ -82,14 +84,13 @@ fn walk(back: &[u16; OPERATIONS], first: usize) -> Walked
 }
 
 // The trail of document 01's rule. 0 in `starts` marks the kept operations.
-fn trail(weights: &[u8], from: &[u16], to: &[u16], starts: &[u16; OPERATIONS]) -> Walked
-    requires closed { Closed limit.longest (ordered weights.now from.now to.now) }
-    requires kept_at { KeptAt (ordered weights.now from.now to.now) starts.now }
-    requires cyclic { Cyclic (ordered weights.now from.now to.now) }
-    ensures { Trailed (ordered weights.now from.now to.now) result.met result.count result.twice }
+fn trail(order: &Order, starts: &[u16; OPERATIONS]) -> Walked
+    requires kept_at { KeptAt (order_in order.now) starts.now }
+    requires cyclic { Cyclic (order_in order.now) }
+    ensures { Trailed (order_in order.now) result.met result.count result.twice }
 {
-    let back = backs(from, to, starts);
-    walk(&back, first_blank(starts, weights.len()))
+    let back = backs(order.from, order.to, starts);
+    walk(&back, first_blank(starts, order.weights.len()))
 }
 
 // Of two places, the one with the lesser number.
@@ -142,20 +143,13 @@ fn write(met: &[u16; OPERATIONS], twice: usize, count: usize, lowest: usize, out
 }
 
 // Writes the cycle shown into the first entries of `out`, where 0 in `starts` marks the kept operations. Its length.
-pub fn show(
-    weights: &[u8],
-    from: &[u16],
-    to: &[u16],
-    starts: &[u16; OPERATIONS],
-    out: &mut [u16],
-) -> usize
-    requires closed { Closed limit.longest (ordered weights.now from.now to.now) }
-    requires kept_at { KeptAt (ordered weights.now from.now to.now) starts.now }
-    requires cyclic { Cyclic (ordered weights.now from.now to.now) }
-    requires weights_in_bounds { length weights.now ≤ length out.old }
-    ensures { Shows (ordered weights.now from.now to.now) out.old out.new result }
+pub fn show(order: &Order, starts: &[u16; OPERATIONS], out: &mut [u16]) -> usize
+    requires kept_at { KeptAt (order_in order.now) starts.now }
+    requires cyclic { Cyclic (order_in order.now) }
+    requires room { size (order_in order.now) ≤ length out.old }
+    ensures { Shows (order_in order.now) out.old out.new result }
 {
-    let walked = trail(weights, from, to, starts);
+    let walked = trail(order, starts);
     let met = walked.met;
     let count = walked.count;
     let twice = walked.twice;

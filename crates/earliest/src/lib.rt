@@ -6,12 +6,14 @@ ghost use Rattle.maths.specs.Rows.{at, over};
 ghost use Rattle.model.specs.Limits as limit;
 ghost use Rattle.model.specs.Order.{Closed, ordered};
 ghost use Rattle.model.specs.Placing.{Placing};
+ghost use Rattle.model.specs.Lent.{order_in};
 ghost use Rattle.theory.specs.order.PlacingSteps.{later, FirstStep};
 ghost use Rattle.earliest.specs.Widths.{heaviest};
 ghost use Rattle.earliest.specs.Round.{Known, Visit, Round, kth_of};
 
 use edge_links::LINKS;
 use model::limits::OPERATIONS;
+use model::order::Order;
 
 // The first step that is left after one edge more, whose source has this start and weight: 0 once an operation waits.
 fn after_edge(step: u32, start: u32, weight: u16) -> u32
@@ -172,14 +174,13 @@ fn narrowed(starts: &[u32; OPERATIONS]) -> [u16; OPERATIONS]
 }
 
 // `earliest` where the weights are delays: no start is above what the longest delays add up to, so each fits 16 bits.
-pub fn by_delays(delays: &[u8], from: &[u16], to: &[u16], starts: &mut [u16; OPERATIONS]) -> usize
-    requires { Closed limit.longest (ordered delays.now from.now to.now) }
-    ensures { Placing (ordered delays.now from.now to.now) starts.new result }
+pub fn by_delays(order: &Order, starts: &mut [u16; OPERATIONS]) -> usize
+    ensures { Placing (order_in order.now) starts.new result }
 {
-    let n = delays.len();
-    let weights = widened(delays);
+    let n = order.weights.len();
+    let weights = widened(order.weights);
     let mut wide = [0u32; OPERATIONS];
-    let placed = earliest(&weights[0..n], from, to, &mut wide);
+    let placed = earliest(&weights[0..n], order.from, order.to, &mut wide);
     *starts = narrowed(&wide);
     placed
 }

@@ -5,4 +5,4 @@ use Rattle.cycle.proofs.show.Goals as goal
 pub returns : goal.returns
 returns c =
     let given = c.requires in
-    shows given.closed c.trail-walked.ensures given.weights_in_bounds c.lowest-begin.ensures c.write.ensures
+    shows c.args.order.now.closed c.trail-walked.ensures given.room c.lowest-begin.ensures c.write.ensures

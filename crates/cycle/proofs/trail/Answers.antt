@@ -3,14 +3,14 @@ use Rattle.cycle.proofs.Showing.{ends, stays, trailed}
 use Rattle.cycle.proofs.trail.Goals as goal
 
 pub backs-back-requires : goal.backs-back-requires
-backs-back-requires c = ends c.requires.closed
+backs-back-requires c = ends c.args.order.now.closed
 
 pub walk-requires : goal.walk-requires
 walk-requires c =
     let given = c.requires in
-    stays given.closed given.kept_at given.cyclic c.backs-back.ensures c.first_blank.ensures
+    stays c.args.order.now.closed given.kept_at given.cyclic c.backs-back.ensures c.first_blank.ensures
 
 pub returns : goal.returns
 returns c =
     let given = c.requires in
-    trailed given.closed given.kept_at given.cyclic c.backs-back.ensures c.first_blank.ensures c.walk.ensures
+    trailed c.args.order.now.closed given.kept_at given.cyclic c.backs-back.ensures c.first_blank.ensures c.walk.ensures
