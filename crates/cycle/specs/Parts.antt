@@ -28,14 +28,8 @@ pub record Trailed (o : Order) (met : List ℕ) (count twice : ℕ) : Type 0 whe
   pub inside : twice < count
   pub trail : Trail o (take count met) twice
 
--- from `twice` to before `count` there is a place, and all are below the limit
-pub record Span (twice count : ℕ) : Type 0 where
-  pub some : twice < count
-  pub few : count ≤ limit.operations
-
--- `lowest` is such a place, and the steps are at most a whole round
+-- `lowest` is a place from `twice` to before `count`, and the steps are at most a whole round
 pub record PartOfRound (twice count lowest steps : ℕ) : Type 0 where
   pub late : twice ≤ lowest
   pub inside : lowest < count
-  pub few : count ≤ limit.operations
   pub most : steps + twice ≤ count
