@@ -9,12 +9,6 @@ use Rattle.model.specs.Cycle.{Trail}
 abbrev pub Blank : List ℕ → ℕ → Type 0
 Blank row i = at row i ≡ 0
 
--- each edge has two ends, below the limit
-pub record EndsInside (from to : List ℕ) : Type 0 where
-  pub even : length to ≡ length from
-  pub source_in : (e : ℕ) → e < length from → at from e < limit.operations
-  pub target_in : (e : ℕ) → e < length from → at to e < limit.operations
-
 -- r is the lowest below n at which the row has 0, or n
 pub record FirstBlank (row : List ℕ) (n r : ℕ) : Type 0 where
   pub within : r ≤ n

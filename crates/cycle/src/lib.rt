@@ -10,12 +10,12 @@ ghost use Rattle.theory.specs.cycle.WalkUntilMetAgain.{NeverLeaves, MetAgain};
 ghost use Rattle.theory.specs.cycle.TurnedRound.{Turned};
 ghost use Rattle.theory.specs.cycle.WritingTheCycle.{LeastNumber, Wrote};
 ghost use Rattle.cycle.specs.Show.{KeptAt, Shows};
-ghost use Rattle.cycle.specs.Parts.{Blank, EndsInside, FirstBlank, Trailed, PartOfRound};
+ghost use Rattle.cycle.specs.Parts.{Blank, FirstBlank, Trailed, PartOfRound};
 
 use model::limits::OPERATIONS;
 use model::order::Order;
 
-// What was met, how many, and the place of the one that came again.
+// What was met, how many, and the place of the one that came again. The row has room for every operation, since there is no heap.
 #[derive(Clone, Copy)]
 struct Walked {
     met: [u16; OPERATIONS],
@@ -67,13 +67,12 @@ impl Walked {
     }
 }
 
-// For each operation the lowest with start 0 that has an edge to it, and the limit where there is none.
-fn backs(from: &[u16], to: &[u16], starts: &[u16; OPERATIONS]) -> [u16; OPERATIONS]
-    requires { EndsInside from.now to.now }
-    ensures { Backed from.now to.now (Blank starts.now) result (length from.now) }
+// For each operation the lowest with start 0 that has an edge to it. Where there is none it is the limit, so that `min` alone keeps the lowest.
+fn backs(order: &Order, starts: &[u16; OPERATIONS]) -> [u16; OPERATIONS]
+    ensures { Backed order.now.from.now order.now.to.now (Blank starts.now) result (length order.now.from.now) }
 {
     let mut back = [OPERATIONS as u16; OPERATIONS];
-    for (source, target) in from.iter().zip(to) {
+    for (source, target) in order.from.iter().zip(order.to) {
         let target = usize::from(*target);
         if starts[usize::from(*source)] == 0 {
             back[target] = back[target].min(*source);
@@ -94,7 +93,7 @@ fn first_blank(starts: &[u16; OPERATIONS], n: usize) -> usize
         .unwrap_or(n)
 }
 
-// From the first along the row until one comes that was met before. It ends, since each turn takes one more place.
+// From the first along the row until one comes that was met before. No `for`, since where it ends is in the row: each turn takes one more place.
 fn walk(back: &[u16; OPERATIONS], first: usize) -> Walked
     requires { NeverLeaves back.now first }
     ensures { MetAgain back.now first result.met result.count result.twice }
@@ -119,7 +118,7 @@ fn trail(order: &Order, starts: &[u16; OPERATIONS]) -> Walked
     requires cyclic { Cyclic (order_in order.now) }
     ensures { Trailed (order_in order.now) result.met result.count result.twice }
 {
-    let back = backs(order.from, order.to, starts);
+    let back = backs(order, starts);
     walk(&back, first_blank(starts, order.weights.len()))
 }
 

@@ -19,6 +19,7 @@ loop-source-init c = backed_none
 
 pub loop-source-preserved-then-starts-from-eq0 : goal.loop-source-preserved-then-starts-from-eq0
 loop-source-preserved-then-starts-from-eq0 c =
+    let order = c.args.order.now in
     let e = c.loop-source.yielded in
-    let t = zip_turn c.args.from.now c.args.to.now e c.into_iter-source-iterator.result c.loop-source.source-iterator c.next.new.self _ (cc) (cc) c.loop-source.yielded_by _ c.in-Some.is c.next.ensures.steps in
-    backed_lower c.loop-source.invariant (t.2 0) (c.from-target.ensures ∙ t.3 0) (c.requires.target_in (length e) t.0) (rw c.from.ensures at c.if-starts-from-eq0.true) (cc) (length_push e _)
+    let t = zip_turn order.from.now order.to.now e c.into_iter-source-iterator.result c.loop-source.source-iterator c.next.new.self _ (cc) (cc) c.loop-source.yielded_by _ c.in-Some.is c.next.ensures.steps in
+    backed_lower c.loop-source.invariant (t.2 0) (c.from-target.ensures ∙ t.3 0) (omega (arith, order.closed.target_in (length e) t.0, order.closed.few)) (rw c.from.ensures at c.if-starts-from-eq0.true) (cc) (length_push e _)

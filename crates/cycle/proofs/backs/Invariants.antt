@@ -5,4 +5,4 @@ use Rattle.cycle.specs.Parts.{Blank}
 use Rattle.cycle.proofs.backs.Given as goal
 
 abbrev pub invariant-loop-source : goal.invariant-loop-source
-invariant-loop-source l = Backed l.from l.to (Blank l.starts) l.back (length l.yielded)
+invariant-loop-source l = Backed l.order.from.now l.order.to.now (Blank l.starts) l.back (length l.yielded)
