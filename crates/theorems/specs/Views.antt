@@ -1,4 +1,4 @@
--- Each refusal of a view is given exactly when 01 says, and a view lies in its own table's memory, never in the other's.
+-- Each refusal of a view is given exactly when its rule says, and a view lies in its own table's memory, never in the other's.
 use Rattle.std.specs.Prelude.{◌≡◌, ◌⊎◌, drop}
 use Rattle.std.proofs.Common.{sym, ◌∙◌, inl, inr, ⊎_elim, arith}
 use Rattle.std.proofs.Math.Path.{ap, subst}
@@ -6,11 +6,14 @@ use Rattle.std.proofs.Math.Option.{Option, none, some}
 use Prim.Native.Nat.{ℕ, ◌+◌}
 use Rattle.std.proofs.Math.ListN.{length, length-drop}
 use Rattle.std.proofs.Math.Seq.{length-take-le}
-use Rattle.maths.specs.Cases.{same_or_not, le_or_lt}
+use Rattle.std.specs.declared.option.Option.TheVariants.{None, Some}
+use Rattle.maths.specs.Cases.{same_or_not, le_or_lt, none_some, some_one}
 use Rattle.model.specs.Refusals.{First, NoChannel}
-use Rattle.model.specs.Views.{PartOf, PartAfter, Viewed, number_or0, ViewRefusal}
+use Rattle.model.specs.Views.{PartOf, PartAfter, Viewed, named, ViewRefusal}
 use Rattle.model.specs.Channels.{Table, chosen}
 use Rattle.model.specs.Checks.{view_checks}
+use Rattle.model.specs.declared.Refusal.TheVariants.{Channel, Range}
+use Rattle.theory.specs.refusals.RefusalNumbers.{refused_passes}
 use Rattle.theory.specs.views.OneView.{Available, Named, PastEnd, passes, refuses_channel, refuses_range, view_checks_one}
 
 -- a channel is one of the two or neither
@@ -20,6 +23,10 @@ named_or_not channel =
     (λ e. inl (inl e))
     (λ x. ⊎_elim (λ e. inl (inr e)) (λ y. inr (record { not_a = x; not_b = y })) (same_or_not channel 1))
     (same_or_not channel 0)
+
+-- the two refusals of a view differ
+channel_not_range : named (Some Channel) ≡ named (Some Range) → ⊥
+channel_not_range e = let n = ap (λ (r : ℕ × ℕ). r.0) (some_one e) in omega arith
 
 module _ (a b : Table) (channel first count : ℕ) where
   -- a request is available, or names no table, or ends past the table it names
@@ -34,34 +41,34 @@ module _ (a b : Table) (channel first count : ℕ) where
       (λ n. inr (inl n))
       (named_or_not channel)
 
-  -- what the checks say is the number's
-  number_is : {n : ℕ} (x : Option (ℕ × ℕ)) → First (view_checks a b channel first count) x → ViewRefusal a b channel first count n → n ≡ number_or0 x
-  number_is x f v = v.is ∙ ap number_or0 (view_checks_one a b channel first count v.refusal x v.checked f)
-
-  -- 0 only where the part is available
-  pub available : ViewRefusal a b channel first count 0 → Available a b channel first count
+  -- no refusal is named only where the part is available
+  pub available : ViewRefusal a b channel first count None → Available a b channel first count
   available v =
       ⊎_elim
       (λ h. h)
       (⊎_elim
-      (λ n. absurd (omega (arith, number_is _ (refuses_channel a b channel first count n) v)))
-      (λ p. absurd (omega (arith, number_is _ (refuses_range a b channel first count p) v))))
+      (λ n. absurd (none_some (view_checks_one a b channel first count _ _ v (refuses_channel a b channel first count n))))
+      (λ p. absurd (none_some (view_checks_one a b channel first count _ _ v (refuses_range a b channel first count p)))))
       one_of_three
 
-  -- 12 only where the channel is neither
-  pub no_channel : ViewRefusal a b channel first count 12 → NoChannel channel
+  -- the channel's only where it is neither
+  pub no_channel : ViewRefusal a b channel first count (Some Channel) → NoChannel channel
   no_channel v =
       ⊎_elim
-      (λ h. absurd (omega (arith, number_is _ (passes a b channel first count h) v)))
-      (⊎_elim (λ n. n) (λ p. absurd (omega (arith, number_is _ (refuses_range a b channel first count p) v))))
+      (λ h. refused_passes Channel (view_checks_one a b channel first count _ _ v (passes a b channel first count h)))
+      (⊎_elim
+      (λ n. n)
+      (λ p. absurd (channel_not_range (view_checks_one a b channel first count _ _ v (refuses_range a b channel first count p)))))
       one_of_three
 
-  -- 13 only where the table ends before the part does
-  pub past_end : ViewRefusal a b channel first count 13 → PastEnd a b channel first count
+  -- the range's only where the table ends before the part does
+  pub past_end : ViewRefusal a b channel first count (Some Range) → PastEnd a b channel first count
   past_end v =
       ⊎_elim
-      (λ h. absurd (omega (arith, number_is _ (passes a b channel first count h) v)))
-      (⊎_elim (λ n. absurd (omega (arith, number_is _ (refuses_channel a b channel first count n) v))) (λ p. p))
+      (λ h. refused_passes Range (view_checks_one a b channel first count _ _ v (passes a b channel first count h)))
+      (⊎_elim
+      (λ n. absurd (channel_not_range (view_checks_one a b channel first count _ _ (refuses_channel a b channel first count n) v)))
+      (λ p. p))
       one_of_three
 
   -- the part handed back lies in the chosen table's memory, whatever the checks say
