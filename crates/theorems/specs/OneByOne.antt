@@ -1,4 +1,4 @@
--- The rule in 01's own words, candidates starting one after another: however the types are interleaved it ends, and it ends at what `stepped` says.
+-- The rule as it is told, candidates starting one after another: however the types are interleaved it ends, and it ends at what `stepped` says.
 use Rattle.std.specs.Prelude.{◌≡◌, refl, ◌⊎◌, Bool, true, List, eqb, ltb, length, set}
 use Rattle.std.proofs.Common.{sym, ap, subst, ◌∙◌, inl, inr, not-suc-le-zero, arith, get_or-set_other}
 use Rattle.std.proofs.Math.Logic.{⊎_elim}
