@@ -1,6 +1,6 @@
 -- Wrong answers, each at a concrete input where a contract does not allow it: the true answer is there, and the contract leaves one.
-use Rattle.std.specs.Prelude.{◌≡◌, refl, List, [], ◌∷◌, ℕ, length, Result, Ok, Err}
-use Rattle.std.proofs.Common.{sym, ap, inr, ◌∙◌, arith}
+use Rattle.std.specs.Prelude.{◌≡◌, refl, List, [], ℕ, length, Result, Ok, Err}
+use Rattle.std.proofs.Common.{sym, ap, inr, arith}
 use Rattle.std.proofs.Math.Option.{Option, none, some}
 use Rattle.maths.specs.Cases.{none_some}
 use Rattle.std.specs.declared.option.Option.TheVariants.{Some}

@@ -8,10 +8,9 @@ use Rattle.std.proofs.Math.ListN.{length, length-drop}
 use Rattle.std.proofs.Math.Seq.{length-take-le}
 use Rattle.std.specs.declared.option.Option.TheVariants.{None, Some}
 use Rattle.maths.specs.Cases.{same_or_not, le_or_lt, none_some, some_one}
-use Rattle.model.specs.Refusals.{First, NoChannel}
+use Rattle.model.specs.Refusals.{NoChannel}
 use Rattle.model.specs.Views.{PartOf, PartAfter, Viewed, named, ViewRefusal}
 use Rattle.model.specs.Channels.{Table, chosen}
-use Rattle.model.specs.Checks.{view_checks}
 use Rattle.model.specs.declared.Refusal.TheVariants.{Channel, Range}
 use Rattle.theory.specs.refusals.RefusalNumbers.{refused_passes}
 use Rattle.theory.specs.views.OneView.{Available, Named, PastEnd, passes, refuses_channel, refuses_range, view_checks_one}
