@@ -105,7 +105,7 @@ module _ (g : Graph) (labels units t : List ℕ) (l : ℕ) (wide : many g ≤ le
       let i = s.number in
       let more = ends fuel (set x i l) (omega (arith, length-set x i l))
       (omega (arith, fewer x i room s.next.inside s.next.waiting)) in
-      record { row = more.row; run = start s.next more.run })
+      record { row = more.row; run = start {u = more.row} s.next more.run })
       (λ none. record { row = x; run = stop (λ i n. none i n.inside (next_opens x i n)) })
       (some_or_none (opens x) (many g))
 

@@ -7,13 +7,12 @@ use Prim.Native.Nat.{ℕ, ◌+◌}
 use Rattle.std.proofs.Math.ListN.{length, length-drop}
 use Rattle.std.proofs.Math.Seq.{length-take-le}
 use Rattle.std.specs.declared.option.Option.TheVariants.{None, Some}
-use Rattle.maths.specs.Cases.{same_or_not, le_or_lt, none_some, some_one}
+use Rattle.maths.specs.Cases.{same_or_not, le_or_lt}
 use Rattle.model.specs.Refusals.{NoChannel}
-use Rattle.model.specs.Views.{PartOf, PartAfter, Viewed, named, ViewRefusal}
+use Rattle.model.specs.Views.{PartOf, PartAfter, Viewed, ViewRefusal}
 use Rattle.model.specs.Channels.{Table, chosen}
 use Rattle.model.specs.declared.Refusal.TheVariants.{Channel, Range}
-use Rattle.theory.specs.refusals.RefusalNumbers.{refused_passes}
-use Rattle.theory.specs.views.OneView.{Available, Named, PastEnd, passes, refuses_channel, refuses_range, view_checks_one}
+use Rattle.theory.specs.views.OneView.{Available, Named, PastEnd, passes, refuses_channel, refuses_range, view_checks_one, view_refusal_one}
 
 -- a channel is one of the two or neither
 named_or_not : (channel : ℕ) → Named channel ⊎ NoChannel channel
@@ -22,10 +21,6 @@ named_or_not channel =
     (λ e. inl (inl e))
     (λ x. ⊎_elim (λ e. inl (inr e)) (λ y. inr (record { not_a = x; not_b = y })) (same_or_not channel 1))
     (same_or_not channel 0)
-
--- the two refusals of a view differ
-channel_not_range : named (Some Channel) ≡ named (Some Range) → ⊥
-channel_not_range e = let n = ap (λ (r : ℕ × ℕ). r.0) (some_one e) in omega arith
 
 module _ (a b : Table) (channel first count : ℕ) where
   -- a request is available, or names no table, or ends past the table it names
@@ -46,27 +41,27 @@ module _ (a b : Table) (channel first count : ℕ) where
       ⊎_elim
       (λ h. h)
       (⊎_elim
-      (λ n. absurd (none_some (view_checks_one a b channel first count _ _ v (refuses_channel a b channel first count n))))
-      (λ p. absurd (none_some (view_checks_one a b channel first count _ _ v (refuses_range a b channel first count p)))))
+      (λ n. absurd (cc (view_refusal_one a b channel first count None (Some Channel) v (refuses_channel a b channel first count n))))
+      (λ p. absurd (cc (view_refusal_one a b channel first count None (Some Range) v (refuses_range a b channel first count p)))))
       one_of_three
 
   -- the channel's only where it is neither
   pub no_channel : ViewRefusal a b channel first count (Some Channel) → NoChannel channel
   no_channel v =
       ⊎_elim
-      (λ h. refused_passes Channel (view_checks_one a b channel first count _ _ v (passes a b channel first count h)))
+      (λ h. absurd (cc (view_refusal_one a b channel first count (Some Channel) None v (passes a b channel first count h))))
       (⊎_elim
       (λ n. n)
-      (λ p. absurd (channel_not_range (view_checks_one a b channel first count _ _ v (refuses_range a b channel first count p)))))
+      (λ p. absurd (cc (view_refusal_one a b channel first count (Some Channel) (Some Range) v (refuses_range a b channel first count p)))))
       one_of_three
 
   -- the range's only where the table ends before the part does
   pub past_end : ViewRefusal a b channel first count (Some Range) → PastEnd a b channel first count
   past_end v =
       ⊎_elim
-      (λ h. refused_passes Range (view_checks_one a b channel first count _ _ v (passes a b channel first count h)))
+      (λ h. absurd (cc (view_refusal_one a b channel first count (Some Range) None v (passes a b channel first count h))))
       (⊎_elim
-      (λ n. absurd (channel_not_range (view_checks_one a b channel first count _ _ (refuses_channel a b channel first count n) v)))
+      (λ n. absurd (cc (view_refusal_one a b channel first count (Some Range) (Some Channel) v (refuses_channel a b channel first count n))))
       (λ p. p))
       one_of_three
 
