@@ -1,13 +1,7 @@
--- The later of two steps, and the difference of two rows.
+-- The difference of two rows.
 use Rattle.std.specs.Prelude.{◌≡◌, List, ℕ, ◌-◌, ◌<◌, ◌≤◌, length}
 use Rattle.maths.specs.Rows.{at}
 use Rattle.model.specs.Limits as limit
-
--- r is the least that neither a nor b is above
-pub record LaterOf (a b r : ℕ) : Type 0 where
-  pub first : a ≤ r
-  pub second : b ≤ r
-  pub least : (c : ℕ) → a ≤ c → b ≤ c → r ≤ c
 
 -- `low` lies nowhere above `high` in the first n entries
 pub record Under (high low : List ℕ) (n : ℕ) : Type 0 where
