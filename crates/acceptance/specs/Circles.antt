@@ -1,4 +1,4 @@
--- The cycles shown in 01's cases 6 and 7. Each operation of them is kept, so that the lowest predecessor is the lowest kept one, and computing tells which it is.
+-- The cycles shown in cases 6 and 7. Each operation of them is kept, so that the lowest predecessor is the lowest kept one, and computing tells which it is.
 use Rattle.std.specs.Prelude.{◌≡◌, refl, Bool, true, List, [], ◌∷◌, ℕ, zero, suc, ◌+◌, ◌≤◌, ◌<◌, leb, eqb}
 use Rattle.std.proofs.Common.{⊎_elim, arith, below_more, leb-true}
 use Rattle.std.proofs.lemmas.Bool.{eqb-false}

@@ -1,5 +1,5 @@
--- Document 01's starred cases, 6 to 14, as one table, and one fact over the whole table: by computing where they compute.
-use Rattle.std.specs.Prelude.{◌≡◌, List, [], ◌∷◌, ◌++◌, ℕ, ◌≤◌, length, replicate}
+-- Cases with known answers, 6 to 14, as one table, and one fact over the whole table: by computing where they compute.
+use Rattle.std.specs.Prelude.{◌≡◌, List, [], ◌∷◌, ◌++◌, ℕ, ◌≤◌, length, replicate, Ok, Err}
 use Rattle.std.proofs.Math.Option.{Option, none, some}
 use Rattle.maths.specs.Rows.{over}
 use Rattle.maths.specs.Words.{keep}
@@ -11,7 +11,6 @@ use Rattle.model.specs.Verdicts.{Checked}
 use Rattle.model.specs.Listing.{all_lawful}
 use Rattle.model.specs.Checks.{lister_checks}
 use Rattle.model.specs.declared.Refusal.TheVariants as refusals
-use Rattle.model.specs.declared.Answer.TheVariants as answers
 use Rattle.model.specs.declared.Finding.{Finding}
 use Rattle.model.specs.declared.Finding.TheVariants as found
 use Rattle.acceptance.specs.Free.{plain_graph, two_starts}
@@ -93,10 +92,10 @@ list_from g units bound (some row) = keep (is_before row) (all_lawful g units bo
 -- the case comes out as the definitions say
 unfoldable pub Holds : Case → Type 0
 Holds (cycle g c) =
-    (out : List ℕ) → many g ≤ length out → AsapAnswer g out (answers.Refused (refusals.Cycle (length c))) (over c out)
+    (out : List ℕ) → many g ≤ length out → AsapAnswer g out (Err (refusals.Cycle (length c))) (over c out)
 Holds (listing g units bound asked rows) =
     First (lister_checks g units bound asked (many g)) none × (list_from g units bound asked ≡ rows)
-Holds (verdict g units bound t f) = Checked g units bound t (record { finding = f })
+Holds (verdict g units bound t f) = Checked g units bound t (Ok f)
 Holds (refusal g units bound x) = First (lister_checks g units bound none (many g)) x
 
 -- each of them does

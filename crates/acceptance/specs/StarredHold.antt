@@ -19,7 +19,7 @@ use Rattle.theory.specs.refusals.SoundGraph.{closed}
 use Rattle.model.specs.Answers.{Fills}
 use Rattle.theory.specs.refusals.RowAfterwards.{answered_says, answered_passed}
 use Rattle.model.specs.Faults as fault
-use Rattle.model.specs.Verdicts.{Finds}
+use Rattle.model.specs.Verdicts.{Finds, Reports}
 use Rattle.theorems.specs.AllListed.{is_lawful_tells}
 use Rattle.theory.specs.unit_use.OneVerdict.{timely_operation}
 use Rattle.model.specs.Listing.{is_lawful}
@@ -115,7 +115,7 @@ eleventh_holds = (
 )
 
 twelfth_holds : All twelfth
-unfolding All Holds is_sound every ◌and◌ Finds is_lawful sum runs
+unfolding All Holds is_sound every ◌and◌ Finds Reports is_lawful sum runs
 twelfth_holds = (
   record {
     first = checks_pass (slow 1) single 2 (1 ∷ []) (slow_sound 1 refl) refl refl (omega arith) refl refl one_starts;
@@ -134,7 +134,7 @@ twelfth_holds = (
     one_starts = below_one (λ (i : ℕ). 1 ≤ at (1 ∷ []) i) (omega arith)
 
 pub thirteenth_holds : All thirteenth
-unfolding All Holds is_sound every ◌and◌ Finds is_lawful sum runs
+unfolding All Holds is_sound every ◌and◌ Finds Reports is_lawful sum runs
 thirteenth_holds = (
   record {
     first = checks_pass (slow 2) single 4 (two_starts 1 2) (slow_sound 2 refl) refl refl (omega arith) refl refl

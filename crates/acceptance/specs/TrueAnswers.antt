@@ -1,5 +1,5 @@
--- Every entry point's answer at 01's case 9 with one unit: two operations, one type, delay 1, bound 2. Each is built from the definitions, by computing where they compute.
-use Rattle.std.specs.Prelude.{◌≡◌, refl, List, [], ◌∷◌, ◌++◌, ℕ, zero, suc, ◌+◌, ◌-◌, ◌≤◌, ◌<◌, replicate}
+-- Every entry point's answer at case 9 with one unit: two operations, one type, delay 1, bound 2. Each is built from the definitions, by computing where they compute.
+use Rattle.std.specs.Prelude.{◌≡◌, refl, List, [], ◌∷◌, ◌++◌, ℕ, zero, suc, ◌+◌, ◌-◌, ◌≤◌, ◌<◌, replicate, Ok}
 use Rattle.std.proofs.Math.Option.{Option, none, some}
 use Rattle.std.proofs.Common.{⊎_elim, arith}
 use Rattle.maths.specs.Tests.{◌and◌, ◌or◌, neg}
@@ -24,8 +24,6 @@ use Rattle.model.specs.Scheduling.{ListAnswer, StateAfter, AdvanceAnswer}
 use Rattle.model.specs.Listing.{is_lawful, Least, Gives, ListerAnswer, Asked, AskedAll}
 use Rattle.model.specs.Checks.{asap_checks, alap_checks, lister_checks}
 use Rattle.theorems.specs.AllListed.{asked_all, Gets, next_gets}
-use Rattle.model.specs.declared.Answer.TheVariants as answers
-use Rattle.model.specs.declared.Scheduled.TheVariants as scheduled
 use Rattle.model.specs.declared.Listed.TheVariants as listed
 use Rattle.acceptance.specs.Passing.{is_sound, is_sound_tells, shape_passes, output_passes, units_pass, cyclic_passes, large_passes, late_passes, windows_pass, tenth_decides}
 use Rattle.acceptance.specs.Free.{plain_graph, two_starts, free_asap, free_alap, free_mobility, below_two}
@@ -69,15 +67,15 @@ alap_passes =
     (late_passes (order pair) 2 _ (free_alap 2).latest.keeps (free_alap 2).latest.within))
 
 -- ---- the tables
-pub asap_true : AsapAnswer pair sevens answers.Done (two_starts 1 1)
+pub asap_true : AsapAnswer pair sevens (Ok tt) (two_starts 1 1)
 unfolding RowAfter
 asap_true = record { first = asap_passes; row = record { row = two_starts 1 1; is = free_asap 2; written = refl } }
 
-pub alap_true : AlapAnswer pair 2 sevens answers.Done (two_starts 2 2)
+pub alap_true : AlapAnswer pair 2 sevens (Ok tt) (two_starts 2 2)
 unfolding RowAfter
 alap_true = record { first = alap_passes; row = record { row = two_starts 2 2; is = free_alap 2; written = refl } }
 
-pub mobility_true : MobilityAnswer pair 2 sevens answers.Done (two_starts 1 1)
+pub mobility_true : MobilityAnswer pair 2 sevens (Ok tt) (two_starts 1 1)
 unfolding RowAfter
 mobility_true = record { first = alap_passes; row = record { row = two_starts 1 1; is = free_mobility 2; written = refl } }
 
@@ -117,7 +115,7 @@ pair_list = record {
   is = refl;
 }
 
-pub list_true : ListAnswer pair single sevens (scheduled.Latency 2) (two_starts 1 2)
+pub list_true : ListAnswer pair single sevens (Ok 2) (two_starts 1 2)
 unfolding RowAfter
 list_true = record {
   first = first_pass ((shape pair _ ++ output pair 2) ++ unitless pair single) (cyclic (order pair)) none
@@ -155,15 +153,18 @@ pair_none k p = record {
   met = pair_unused k p 0;
 }
 
-pub peak_true : PeakAnswer pair (two_starts 1 1) (record { answer = answers.Done; counts = 2 ∷ (0 ∷ two_starts 0 0) })
+-- two units of type 0, and none of the others
+abbrev pub peaks : List ℕ
+peaks = 2 ∷ (0 ∷ two_starts 0 0)
+
+pub peak_true : PeakAnswer pair (two_starts 1 1) (Ok peaks)
 unfolding Counts runs sum ◌and◌
 peak_true = record {
   first = first_pass (shape pair _) (cyclic (order pair)) none (shape_passes pair _ pair_sound (λ n. n refl)) pair_cyclic;
-  long = refl;
-  counts = each;
+  counts = record { long = refl; each = each };
 }
   where
-    each : (k : ℕ) → k < 4 → Peak pair (two_starts 1 1) k (at (2 ∷ (0 ∷ two_starts 0 0)) k)
+    each : (k : ℕ) → k < 4 → Peak pair (two_starts 1 1) k (at peaks k)
     each zero l = record { never_more = running_le pair (two_starts 1 1) 0; at_step = 1; met = refl }
     each (suc zero) l = pair_none 1 (omega arith)
     each (suc (suc zero)) l = pair_none 2 (omega arith)
@@ -186,21 +187,21 @@ even_pair : (a b : ℕ) → ListerUneven pair single (some (two_starts a b)) →
 unfolding ListerUneven
 even_pair a b = ⊎_elim (λ n. n refl) (λ n. n refl)
 
-pub first_true : ListerAnswer pair single 2 none sevens listed.Found (two_starts 1 2)
+pub first_true : ListerAnswer pair single 2 none sevens (Ok listed.Found) (two_starts 1 2)
 unfolding RowAfter Gives ListerUneven is_lawful words joined keep every sum runs ◌and◌
 first_true = record {
   first = lister_passes none (λ n. n refl);
   row = record { row = two_starts 1 2; is = asked_first (asked_all pair pair_sound single 2); written = refl };
 }
 
-pub next_true : ListerAnswer pair single 2 (some (two_starts 1 2)) sevens listed.Found (two_starts 2 1)
+pub next_true : ListerAnswer pair single 2 (some (two_starts 1 2)) sevens (Ok listed.Found) (two_starts 2 1)
 unfolding RowAfter Gives Gets is_lawful words joined keep every sum runs is_before ◌and◌ ◌or◌
 next_true = record {
   first = lister_passes (some (two_starts 1 2)) (even_pair 1 2);
   row = record { row = two_starts 2 1; is = next_gets pair pair_sound single 2 (two_starts 1 2) refl; written = refl };
 }
 
-pub last_true : ListerAnswer pair single 2 (some (two_starts 2 1)) sevens listed.NoneLeft sevens
+pub last_true : ListerAnswer pair single 2 (some (two_starts 2 1)) sevens (Ok listed.NoneLeft) sevens
 unfolding RowAfter Gives Gets is_lawful words joined keep every sum runs is_before ◌and◌ ◌or◌
 last_true = record {
   first = lister_passes (some (two_starts 2 1)) (even_pair 2 1);

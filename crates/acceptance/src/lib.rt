@@ -1,2 +1,2 @@
-// How tightly every answer is pinned: document 01's starred cases, and the wrong answers that the contracts shut out. All of it is in specs/.
+// How tightly every answer is pinned: cases that come out as the rules say, and the wrong answers that the contracts shut out. All of it is in specs/.
 #![tactic(auto)]

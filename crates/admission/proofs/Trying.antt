@@ -10,18 +10,17 @@ use Rattle.theory.specs.refusals.FirstRefusal.{first_silent, first_end}
 use Rattle.theory.specs.refusals.RowAfterwards.{row_given, answered_says}
 use Rattle.theory.specs.order.PlacingOutcome.{placing_kept, placing_free, placing_done, placing_acyclic}
 use Rattle.theory.specs.cycle.SomeShown.{shown_cyclic}
-use Rattle.model.specs.declared.Answer.TheVariants.{Done}
+use Rattle.std.specs.Prelude.{Ok, Err}
 use Rattle.model.specs.declared.Refusal.TheVariants.{Cycle}
 use Rattle.cycle.specs.Show.{KeptAt, Shows}
 use Rattle.admission.specs.Admitted.{Started, Admitted}
-use Rattle.admission.specs.AdmissionLaws.{refused_by}
 
 module _ {heaviest : ℕ} {o : Order} {s : List ℕ} {placed : ℕ} (c : Closed heaviest o) (p : Placing o s placed) where
   -- what is not placed is what a cycle reaches
   pub kept_at : KeptAt o s
   kept_at = record { zero = placing_kept c p; kept = placing_free c p }
 
-  pub tried_done : (before : List ℕ) → placed ≡ size o → Admitted o (cyclic o) before (record { answer = Done; starts = s }) before
+  pub tried_done : (before : List ℕ) → placed ≡ size o → Admitted o (cyclic o) before (Ok s) before
   unfolding Started
   tried_done before all = record {
     answered = record {
@@ -32,11 +31,11 @@ module _ {heaviest : ℕ} {o : Order} {s : List ℕ} {placed : ℕ} (c : Closed 
   }
 
 -- the cycle shown is written, and there are no starts
-pub tried_shown : {o : Order} {before after : List ℕ} {long : ℕ} → Shows o before after long → Admitted o (cyclic o) before (refused_by (Cycle long)) after
+pub tried_shown : {o : Order} {before after : List ℕ} {long : ℕ} → Shows o before after long → Admitted o (cyclic o) before (Err (Cycle long)) after
 unfolding Started
 tried_shown {before = before} {after} {long} h = record {
   answered = answered_says _ [] before (λ a. a ≡ before) 7 long after
       (record { is = refl; cycle = h.cycle; shown = h.shown; long = h.long })
       (record { row = h.cycle; is = h.shown; written = h.written });
-  started = refl;
+  started = tt;
 }

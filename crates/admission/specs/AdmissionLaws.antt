@@ -1,5 +1,5 @@
 -- What holds of an admission: how it is put together from its parts, and what a question may rely on once it has passed.
-use Rattle.std.specs.Prelude.{◌≡◌, Bool, true, false, ◌⊎◌, List, ◌++◌, ℕ, ◌≤◌, ◌<◌, eqb, length, replicate}
+use Rattle.std.specs.Prelude.{◌≡◌, Bool, true, false, ◌⊎◌, List, ◌++◌, ℕ, ◌≤◌, ◌<◌, eqb, length, Result, Ok, Err}
 use Rattle.std.proofs.Math.Path.{refl, subst}
 use Rattle.std.proofs.Common.{sym, ap, ◌∙◌, true≢false, inl, inr, ⊎_elim, arith, ne_eqb}
 use Rattle.std.proofs.Math.Option.{Option, none, some}
@@ -14,20 +14,12 @@ use Rattle.model.specs.Graph.{Graph, order, many, Sound}
 use Rattle.model.specs.Tables.{Within}
 use Rattle.model.specs.Refusals.{Check, First, Late, shape, output}
 use Rattle.model.specs.Answers.{numbered, refusal_of, Fills, Answered}
-use Rattle.model.specs.declared.Answer.{Answer}
-use Rattle.model.specs.declared.Answer.TheVariants.{Done, Refused}
 use Rattle.model.specs.declared.Refusal.{Refusal}
 use Rattle.theory.specs.refusals.FirstRefusal.{first_pass, first_none_append, flat_not}
-use Rattle.theory.specs.refusals.RefusalNumbers.{first_told}
 use Rattle.theory.specs.refusals.RowAfterwards.{WritesNothing, answered_refused, answered_passed, refused_stays, row_given, row_is}
 use Rattle.theory.specs.refusals.SoundGraph.{answered_own, shape_own_then, own_not, sound, room_enough}
 use Rattle.theory.specs.tables.SomeLatency.{not_late_within}
-use Rattle.admission.specs.declared.Begun.{Begun}
 use Rattle.admission.specs.Admitted.{bound_checks, StartsRow, Started, Admitted, Matches}
-
--- refused, with no starts
-abbrev pub refused_by : Refusal → Begun
-refused_by why = record { answer = Refused why; starts = replicate limit.operations 0 }
 
 -- the output row stays
 abbrev pub Unchanged : List ℕ → List ℕ → Type 0
@@ -36,71 +28,65 @@ Unchanged before after = after ≡ before
 -- ---- put together
 module _ {o : Order} (front back : List Check) {before : List ℕ} where
   -- refused by checks that write nothing: the row stays, whatever follows
-  pub admitted_stopped : {a : Answer} {why : Refusal} → WritesNothing front → First front (refusal_of a) → a ≡ Refused why
-      → Admitted o (front ++ back) before (refused_by why) before
+  pub admitted_stopped : {why : Refusal} → WritesNothing front → First front (some (numbered why)) → Admitted o (front ++ back) before (Err why) before
   unfolding Started
-  admitted_stopped {why = why} unwritten h e = record {
+  admitted_stopped {why} unwritten h = record {
     answered = answered_refused front back before (Unchanged before) (Unchanged before) (numbered why) before
-        (refused_stays front before (Unchanged before) (numbered why) before unwritten (first_told front e h) refl);
-    started = refl;
+        (refused_stays front before (Unchanged before) (numbered why) before unwritten h refl);
+    started = tt;
   }
 
   -- the first checks passed, and the others decide
-  pub admitted_passed : {b : Begun} {after : List ℕ} → First front none → Admitted o back before b after → Admitted o (front ++ back) before b after
+  pub admitted_passed : {b : Result (List ℕ) Refusal} {after : List ℕ} → First front none → Admitted o back before b after → Admitted o (front ++ back) before b after
   admitted_passed {b} {after} h k = record {
-    answered = answered_passed front back before (Unchanged before) (refusal_of b.answer) after h k.answered;
+    answered = answered_passed front back before (Unchanged before) (refusal_of b) after h k.answered;
     started = k.started;
   }
 
--- ---- what is known of one
-module _ {o : Order} {front : List Check} {before after : List ℕ} {b : Begun} (h : Admitted o front before b after) where
-  told : {a : Answer} → b.answer ≡ a → Answered front before (Unchanged before) (refusal_of a) after
-  told e = subst (λ (x : Answer). Answered front before (Unchanged before) (refusal_of x) after) e h.answered
+-- ---- what is known of one that refused: it is refused, whatever follows, and whatever an answer would have given
+module _ {o : Order} {front : List Check} {before after : List ℕ} {why : Refusal} (h : Admitted o front before (Err why) after) where
+  pub admitted_refused : (back : List Check) (Given : List ℕ → Type 0) → Answered (front ++ back) before Given (some (numbered why)) after
+  admitted_refused back Given = answered_refused front back before (Unchanged before) Given (numbered why) after h.answered
 
-  -- refused: refused, whatever follows, and whatever an answer would have given
-  pub admitted_refused : (back : List Check) (Given : List ℕ → Type 0) {why : Refusal} → b.answer ≡ Refused why
-      → Answered (front ++ back) before Given (some (numbered why)) after
-  admitted_refused back Given {why} e = answered_refused front back before (Unchanged before) Given (numbered why) after (told e)
-
-  pub admitted_handed : (back : List Check) {why : Refusal} → b.answer ≡ Refused why → Admitted o (front ++ back) before (refused_by why) after
+  pub admitted_handed : (back : List Check) → Admitted o (front ++ back) before (Err why) after
   unfolding Started
-  admitted_handed back e = record { answered = admitted_refused back (Unchanged before) e; started = refl }
+  admitted_handed back = record { answered = admitted_refused back (Unchanged before); started = tt }
 
-  module _ (e : b.answer ≡ Done) where
-    -- passed: no check applies, the row stays, and the starts are the earliest
-    pub admitted_first : First front none
-    admitted_first = (told e).first
+-- ---- and of one that passed: no check applies, the row stays, and the starts are the earliest
+module _ {o : Order} {front : List Check} {before after s : List ℕ} (h : Admitted o front before (Ok s) after) where
+  pub admitted_first : First front none
+  admitted_first = h.answered.first
 
-    pub admitted_kept : after ≡ before
-    admitted_kept = row_is front before (Unchanged before) after (told e).row
+  pub admitted_kept : after ≡ before
+  admitted_kept = row_is front before (Unchanged before) after h.answered.row
 
-    pub admitted_starts : StartsRow o b.starts
-    unfolding Started
-    admitted_starts = subst (λ (x : Answer). Started o (refusal_of x) b.starts) e h.started
+  pub admitted_starts : StartsRow o s
+  unfolding Started
+  admitted_starts = h.started
 
-    -- other checks follow, which read no output row
-    pub admitted_then : (back : List Check) {d : Begun} → ((out : List ℕ) → Admitted o back out d out) → Admitted o (front ++ back) before d after
-    admitted_then back {d} k =
-        admitted_passed front back admitted_first
-        (subst (λ (row : List ℕ). Admitted o back before d row) (sym admitted_kept) (k before))
+  -- other checks follow, which read no output row
+  pub admitted_then : (back : List Check) {d : Result (List ℕ) Refusal} → ((out : List ℕ) → Admitted o back out d out) → Admitted o (front ++ back) before d after
+  admitted_then back {d} k =
+      admitted_passed front back admitted_first
+      (subst (λ (row : List ℕ). Admitted o back before d row) (sym admitted_kept) (k before))
 
-    -- a later check that writes nothing refuses
-    pub admitted_late : (back : List Check) (Given : List ℕ → Type 0) (r : ℕ × ℕ) → WritesNothing back → First back (some r)
-        → Answered (front ++ back) before Given (some r) after
-    admitted_late back Given r unwritten k =
-        answered_passed front back before Given (some r) after admitted_first (refused_stays back before Given r after unwritten k admitted_kept)
+  -- a later check that writes nothing refuses
+  pub admitted_late : (back : List Check) (Given : List ℕ → Type 0) (r : ℕ × ℕ) → WritesNothing back → First back (some r)
+      → Answered (front ++ back) before Given (some r) after
+  admitted_late back Given r unwritten k =
+      answered_passed front back before Given (some r) after admitted_first (refused_stays back before Given r after unwritten k admitted_kept)
 
-    -- none does, and an answer is given
-    pub admitted_given : (back : List Check) (Given : List ℕ → Type 0) {row : List ℕ} → First back none → Given row
-        → Answered (front ++ back) before Given none row
-    admitted_given back Given {row} k g = record {
-      first = first_pass front back none admitted_first k;
-      row = row_given (front ++ back) before Given row g;
-    }
+  -- none does, and an answer is given
+  pub admitted_given : (back : List Check) (Given : List ℕ → Type 0) {row : List ℕ} → First back none → Given row
+      → Answered (front ++ back) before Given none row
+  admitted_given back Given {row} k g = record {
+    first = first_pass front back none admitted_first k;
+    row = row_given (front ++ back) before Given row g;
+  }
 
-    -- a row is written over the output
-    pub admitted_fills : (Is : List ℕ → Type 0) {row written : List ℕ} → written ≡ over row after → Is row → Fills Is before written
-    admitted_fills Is {row} w is = record { row = row; is = is; written = w ∙ ap (over row) admitted_kept }
+  -- a row is written over the output
+  pub admitted_fills : (Is : List ℕ → Type 0) {row written : List ℕ} → written ≡ over row after → Is row → Fills Is before written
+  admitted_fills Is {row} w is = record { row = row; is = is; written = w ∙ ap (over row) admitted_kept }
 
 -- ---- the rows of the table by themselves
 -- refusals 1 to 4 say the mismatch of the question's own rows in the question's words
@@ -109,10 +95,10 @@ pub first_matched : {matched : Bool} {Own : Type 0} → Matches matched Own → 
 first_matched {matched} {Own} m g rest x h = shape_own_then g (matched ≡ false) Own m.odd m.even rest x h
 
 module _ {g : Graph} {matched : Bool} {Own : Type 0} (m : Matches matched Own) where
-  pub admitted_matched : {rest : List Check} {before after : List ℕ} {b : Begun} → Admitted (order g) (shape g (matched ≡ false) ++ rest) before b after
+  pub admitted_matched : {rest : List Check} {before after : List ℕ} {b : Result (List ℕ) Refusal} → Admitted (order g) (shape g (matched ≡ false) ++ rest) before b after
       → Admitted (order g) (shape g Own ++ rest) before b after
   admitted_matched {rest} {before} {after} {b} h = record {
-    answered = answered_own g (matched ≡ false) Own m.odd m.even rest before (Unchanged before) (refusal_of b.answer) after h.answered;
+    answered = answered_own g (matched ≡ false) Own m.odd m.even rest before (Unchanged before) (refusal_of b) after h.answered;
     started = h.started;
   }
 
@@ -135,14 +121,13 @@ pub passed_room : (g : Graph) (Own : Type 0) (room : ℕ) (rest : List Check) �
 passed_room g Own room rest h = room_enough g room (first_none_append (output g room) rest (passed_rest g Own (output g room ++ rest) h)).0
 
 -- the same of an admission that passed
-module _ {g : Graph} {Own : Type 0} {rest : List Check} {before after : List ℕ} {b : Begun}
-    (h : Admitted (order g) (shape g Own ++ (output g (length before) ++ rest)) before b after)
-    (e : b.answer ≡ Done) where
+module _ {g : Graph} {Own : Type 0} {rest : List Check} {before after s : List ℕ}
+    (h : Admitted (order g) (shape g Own ++ (output g (length before) ++ rest)) before (Ok s) after) where
   pub admitted_sound : Sound g
-  admitted_sound = passed_sound g Own (output g (length before) ++ rest) (admitted_first h e)
+  admitted_sound = passed_sound g Own (output g (length before) ++ rest) (admitted_first h)
 
   pub admitted_room : many g ≤ length after
-  admitted_room = omega (arith, passed_room g Own (length before) rest (admitted_first h e), ap length (admitted_kept h e))
+  admitted_room = omega (arith, passed_room g Own (length before) rest (admitted_first h), ap length (admitted_kept h))
 
 -- the bound is within the last step, and leaves the earliest starts room
 module _ (o : Order) (bound : ℕ) (h : First (bound_checks o bound) none) where

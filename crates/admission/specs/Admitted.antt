@@ -1,14 +1,13 @@
 -- What admission leaves: the first refusal that applies, or sound rows and the earliest starts. One record for every set of refusals.
-use Rattle.std.specs.Prelude.{◌≡◌, Bool, false, List, ◌++◌, ℕ, ◌≤◌, length, replicate}
-use Rattle.std.proofs.Math.Option.{Option, none, some}
+use Rattle.std.specs.Prelude.{◌≡◌, Bool, false, List, ◌++◌, ℕ, ◌≤◌, ◌<◌, length, Result, Ok, Err}
 use Rattle.maths.specs.Rows.{at}
 use Rattle.model.specs.Limits as limit
 use Rattle.model.specs.Order.{Order, size}
-use Rattle.model.specs.Graph.{Graph, order}
+use Rattle.model.specs.Graph.{Graph, order, many, type_of}
 use Rattle.model.specs.Tables.{Earliest}
 use Rattle.model.specs.Refusals.{Check, shape, output, unitless, cyclic, large_bound, late_bound}
 use Rattle.model.specs.Answers.{Answered, refusal_of}
-use Rattle.admission.specs.declared.Begun.{Begun}
+use Rattle.model.specs.declared.Refusal.{Refusal}
 
 -- ---- the sets of refusals; `Own` says that the rows that only the question takes do not match
 -- 1 to 4 and 7
@@ -46,15 +45,21 @@ pub record StartsRow (o : Order) (s : List ℕ) : Type 0 where
   pub is : Earliest o s
   pub rest : (i : ℕ) → size o ≤ i → at s i ≡ 0
 
--- passed, the starts are the earliest; refused, zeros
-unfoldable pub Started : Order → Option (ℕ × ℕ) → List ℕ → Type 0
-Started o none s = StartsRow o s
-Started o (some r) s = s ≡ replicate limit.operations 0
+-- passed, the starts are the earliest
+unfoldable pub Started : Order → Result (List ℕ) Refusal → Type 0
+Started o (Ok s) = StartsRow o s
+Started o (Err why) = Unit {0}
 
 -- the first of the checks that applies is given; where none does the output row stays, and a refusal leaves it as its check says
-pub record Admitted (o : Order) (checks : List Check) (before : List ℕ) (b : Begun) (after : List ℕ) : Type 0 where
-  pub answered : Answered checks before (λ a. a ≡ before) (refusal_of b.answer) after
-  pub started : Started o (refusal_of b.answer) b.starts
+pub record Admitted (o : Order) (checks : List Check) (before : List ℕ) (b : Result (List ℕ) Refusal) (after : List ℕ) : Type 0 where
+  pub answered : Answered checks before (λ a. a ≡ before) (refusal_of b) after
+  pub started : Started o b
+
+-- an operation is of type k
+pub record Used (g : Graph) (k : ℕ) : Type 0 where
+  pub user : ℕ
+  pub inside : user < many g
+  pub uses : type_of g user ≡ k
 
 -- `matched` tells whether the rows that only the question takes match; `Own` says that they do not
 pub record Matches (matched : Bool) (Own : Type 0) : Type 0 where

@@ -1,4 +1,3 @@
-pub mod Lowered
 pub mod Admitted
 pub mod AdmissionLaws
 pub mod OneAnswer

@@ -1,39 +1,36 @@
 // Refusals 8 and 9, of the bound.
-ghost use Rattle.std.specs.Prelude.{List, ℕ};
-ghost use Rattle.model.specs.Limits as limit;
-ghost use Rattle.model.specs.Order.{ordered, Closed};
+ghost use Rattle.std.specs.Prelude.{List, ℕ, Ok};
+ghost use Rattle.model.specs.Lent.{order_in};
+ghost use Rattle.model.specs.Refusals.{First, large_bound};
+ghost use Rattle.model.specs.Answers.{refusal_of};
 ghost use Rattle.admission.specs.Admitted.{Admitted, StartsRow, bound_checks};
 
-use crate::Begun;
+use model::Refusal;
 use model::limits::{OPERATIONS, STEPS};
-use model::{Answer, Refusal};
+use model::order::Order;
+
+// Refusal 8, alone: the bound is past the last step.
+pub fn bound_fault(bound: usize) -> Result<(), Refusal>
+    ensures { First (large_bound bound) (refusal_of result) }
+{
+    if STEPS < bound {
+        return Err(Refusal::BoundTooLarge);
+    }
+    Ok(())
+}
 
 // Refusals 8 and 9, of an order whose earliest starts are known; whatever the output row, it is left.
 pub fn within(
-    delays: &[u8],
-    from: &[u16],
-    to: &[u16],
+    order: &Order,
     bound: usize,
     starts: [u16; OPERATIONS],
-) -> Begun
-    requires closed { Closed limit.longest (ordered delays.now from.now to.now) }
-    requires starts_row { StartsRow (ordered delays.now from.now to.now) starts }
-    ensures { (out : List ℕ) → Admitted (ordered delays.now from.now to.now) (bound_checks (ordered delays.now from.now to.now) bound) out result out }
+) -> Result<[u16; OPERATIONS], Refusal>
+    requires { StartsRow (order_in order.now) starts }
+    ensures { (out : List ℕ) → Admitted (order_in order.now) (bound_checks (order_in order.now) bound) out result out }
 {
-    if STEPS < bound {
-        return Begun {
-            answer: Answer::Refused(Refusal::BoundTooLarge),
-            starts: [0u16; OPERATIONS],
-        };
+    bound_fault(bound)?;
+    if bound < latency::latency(order.weights, &starts) {
+        return Err(Refusal::BoundTooSmall);
     }
-    if bound < latency::latency(delays, &starts) {
-        return Begun {
-            answer: Answer::Refused(Refusal::BoundTooSmall),
-            starts: [0u16; OPERATIONS],
-        };
-    }
-    Begun {
-        answer: Answer::Done,
-        starts,
-    }
+    Ok(starts)
 }

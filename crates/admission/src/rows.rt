@@ -10,22 +10,14 @@ use model::limits::OPERATIONS;
 pub fn rows_match(units: usize, kinds: usize, entries: usize, operations: usize) -> bool
     ensures { Tells result ((units ≡ kinds) × (entries ≡ operations)) }
 {
-    if units != kinds {
-        return false;
-    }
-    entries == operations
+    units == kinds && entries == operations
 }
 
-// The output's first n entries are the row's, and the rest of the output stays. The row is read as a slice, since a slice tells its length.
+// The output's first n entries are the row's, and the rest of the output stays.
 pub fn fill(row: &[u16; OPERATIONS], n: usize, out: &mut [u16])
     requires n_le_operations { n ≤ limit.operations }
     requires n_in_bounds { n ≤ length out.old }
     ensures { out.new ≡ over (take n row.now) out.old }
 {
-    let entries: &[u16] = row;
-    let mut i = 0;
-    while i < n {
-        out[i] = entries[i];
-        i += 1;
-    }
+    out[..n].copy_from_slice(&row[..n]);
 }

@@ -1,225 +1,141 @@
-// Refusals 1 to 6 of document 01's table.
-ghost use Rattle.std.specs.Prelude.{◌≡◌, true, false, List, ◌++◌, ℕ, ◌<◌, length};
+// Refusals 1 to 6: rows that are too long or do not match, entries out of their range, an output that is too short, a type with no unit.
+ghost use Rattle.std.specs.Prelude.{◌≡◌, true, false, ◌++◌, length};
 ghost use Rattle.maths.specs.Cases.{Tells};
-ghost use Rattle.maths.specs.Rows.{at};
-ghost use Rattle.model.specs.Graph.{lent, Sound};
+ghost use Rattle.maths.specs.Search.{LowestIf};
+ghost use Rattle.model.specs.Graph.{Sound, many, edges_of};
+ghost use Rattle.model.specs.Lent.{graph_in};
 ghost use Rattle.model.specs.Refusals.{First, Large, Uneven, BadOperation, BadEdge, NoUnit, shape, output, unitless};
 ghost use Rattle.model.specs.Answers.{refusal_of};
-ghost use Rattle.maths.specs.Search.{LowestOr};
-ghost use Rattle.admission.specs.Lowered.{Lowered};
+ghost use Rattle.admission.specs.Admitted.{Used};
 
+use model::Refusal;
+use model::graph::Graph;
 use model::limits::{EDGES, KINDS, LONGEST, OPERATIONS};
-use model::{Answer, Refusal};
 
-// Whether there are more operations, edges or types than the limits, whatever the other rows are.
-fn too_large(delays: &[u8], kinds: usize, from: &[u16]) -> bool
-    ensures { (types to : List ℕ) → Tells result (Large (lent delays.now types kinds from.now to)) }
+// Whether there are more operations, edges or types than the limits.
+fn too_large(graph: &Graph) -> bool
+    ensures { Tells result (Large (graph_in graph.now)) }
 {
-    if OPERATIONS < delays.len() {
-        return true;
-    }
-    if EDGES < from.len() {
-        return true;
-    }
-    if KINDS < kinds {
-        return true;
-    }
-    false
+    OPERATIONS < graph.delays.len() || EDGES < graph.from.len() || KINDS < graph.kinds
 }
 
-// Whether rows that must match differ in length, however many types there are.
-fn uneven(delays: &[u8], types: &[u8], from: &[u16], to: &[u16], matched: bool) -> bool
-    ensures { (kinds : ℕ) → Tells result (Uneven (lent delays.now types.now kinds from.now to.now) (matched ≡ false)) }
+// Whether rows that must match differ in length.
+fn uneven(graph: &Graph, matched: bool) -> bool
+    ensures { Tells result (Uneven (graph_in graph.now) (matched ≡ false)) }
 {
-    if delays.len() != types.len() {
-        return true;
-    }
-    if from.len() != to.len() {
-        return true;
-    }
-    if matched {
-        return false;
-    }
-    true
+    graph.delays.len() != graph.types.len() || graph.from.len() != graph.to.len() || !matched
 }
 
-// The lowest operation with a delay or a type out of its range, or the number of operations, whatever the edges are.
-fn operation_fault(delays: &[u8], types: &[u8], kinds: usize) -> usize
-    requires { length delays.now ≡ length types.now }
-    ensures { (from to : List ℕ) → LowestOr (BadOperation (lent delays.now types.now kinds from to)) (length delays.now) result }
+// The lowest operation with a delay or a type out of its range, where there is one.
+fn operation_fault(graph: &Graph) -> Option<usize>
+    requires { length graph.now.delays.now ≡ length graph.now.types.now }
+    ensures { LowestIf (BadOperation (graph_in graph.now)) (many (graph_in graph.now)) result }
 {
-    let mut i = 0;
-    while i < delays.len() {
-        if delays[i] < 1 {
-            return i;
+    for (i, delay) in graph.delays.iter().enumerate() {
+        if *delay < 1 || LONGEST < *delay as usize || graph.kinds <= graph.types[i] as usize {
+            return Some(i);
         }
-        if LONGEST < delays[i] as usize {
-            return i;
-        }
-        if kinds <= types[i] as usize {
-            return i;
-        }
-        i += 1;
     }
-    i
+    None
 }
 
-// The lowest edge with an end that is no operation, or the number of edges, whatever the types are.
-fn edge_fault(delays: &[u8], from: &[u16], to: &[u16]) -> usize
-    requires { length from.now ≡ length to.now }
-    ensures { (types : List ℕ) (kinds : ℕ) → LowestOr (BadEdge (lent delays.now types kinds from.now to.now)) (length from.now) result }
+// The lowest edge with an end that is no operation, where there is one.
+fn edge_fault(graph: &Graph) -> Option<usize>
+    requires { length graph.now.from.now ≡ length graph.now.to.now }
+    ensures { LowestIf (BadEdge (graph_in graph.now)) (edges_of (graph_in graph.now)) result }
 {
-    let mut e = 0;
-    while e < from.len() {
-        if delays.len() <= from[e] as usize {
-            return e;
+    let n = graph.delays.len();
+    for (e, source) in graph.from.iter().enumerate() {
+        if n <= *source as usize || n <= graph.to[e] as usize {
+            return Some(e);
         }
-        if delays.len() <= to[e] as usize {
-            return e;
-        }
-        e += 1;
     }
-    e
+    None
 }
 
 // Refusals 1 to 4: the first that applies is given. `matched` tells that the rows that only this question takes have the length that they must have.
-pub fn graph_fault(
-    delays: &[u8],
-    types: &[u8],
-    kinds: usize,
-    from: &[u16],
-    to: &[u16],
-    matched: bool,
-) -> Answer
-    ensures { First (shape (lent delays.now types.now kinds from.now to.now) (matched ≡ false)) (refusal_of result) }
+pub fn graph_fault(graph: &Graph, matched: bool) -> Result<(), Refusal>
+    ensures { First (shape (graph_in graph.now) (matched ≡ false)) (refusal_of result) }
 {
-    if too_large(delays, kinds, from) {
-        return Answer::Refused(Refusal::TooLarge);
+    if too_large(graph) {
+        return Err(Refusal::TooLarge);
     }
-    if uneven(delays, types, from, to, matched) {
-        return Answer::Refused(Refusal::Uneven);
+    if uneven(graph, matched) {
+        return Err(Refusal::Uneven);
     }
-    let i = operation_fault(delays, types, kinds);
-    if i < delays.len() {
-        return Answer::Refused(Refusal::Operation(i));
+    if let Some(i) = operation_fault(graph) {
+        return Err(Refusal::Operation(i));
     }
-    let e = edge_fault(delays, from, to);
-    if e < from.len() {
-        return Answer::Refused(Refusal::Edge(e));
+    if let Some(e) = edge_fault(graph) {
+        return Err(Refusal::Edge(e));
     }
-    Answer::Done
+    Ok(())
 }
 
 // Refusals 1 to 5: the first that applies is given. `room` is the length of the output row.
-pub fn front(
-    delays: &[u8],
-    types: &[u8],
-    kinds: usize,
-    from: &[u16],
-    to: &[u16],
-    matched: bool,
-    room: usize,
-) -> Answer
-    ensures { First (shape (lent delays.now types.now kinds from.now to.now) (matched ≡ false) ++ output (lent delays.now types.now kinds from.now to.now) room) (refusal_of result) }
+pub fn front(graph: &Graph, matched: bool, room: usize) -> Result<(), Refusal>
+    ensures { First (shape (graph_in graph.now) (matched ≡ false) ++ output (graph_in graph.now) room) (refusal_of result) }
 {
-    let fault = graph_fault(delays, types, kinds, from, to, matched);
-    match fault {
-        Answer::Refused(refusal) => Answer::Refused(refusal),
-        Answer::Done => {
-            if room < delays.len() {
-                return Answer::Refused(Refusal::ShortOutput);
-            }
-            Answer::Done
+    graph_fault(graph, matched)?;
+    if room < graph.delays.len() {
+        return Err(Refusal::ShortOutput);
+    }
+    Ok(())
+}
+
+// Whether an operation is of this type.
+fn is_used(graph: &Graph, kind: usize) -> bool
+    requires { length graph.now.delays.now ≡ length graph.now.types.now }
+    ensures { Tells result (Used (graph_in graph.now) kind) }
+{
+    graph.types.iter().any(|own| *own as usize == kind)
+}
+
+// The lowest type in use that has no unit, where there is one.
+fn unitless_kind(graph: &Graph, units: &[u8]) -> Option<usize>
+    requires even { length graph.now.delays.now ≡ length graph.now.types.now }
+    requires units_len { length units.now ≡ graph.now.kinds }
+    ensures { LowestIf (NoUnit (graph_in graph.now) units.now) graph.now.kinds result }
+{
+    for (kind, count) in units.iter().enumerate() {
+        if *count == 0 && is_used(graph, kind) {
+            return Some(kind);
         }
     }
+    None
 }
 
-// `lowest`, or `kind` where that is lower and has no unit.
-fn lower(kind: usize, units: u8, lowest: usize) -> usize
-    ensures { Lowered kind units lowest result }
+// Refusal 6, of a sound graph: the lowest type in use that has no unit is refused.
+fn unit_fault(graph: &Graph, units: &[u8]) -> Result<(), Refusal>
+    requires sound { Sound (graph_in graph.now) }
+    requires units_len { length units.now ≡ graph.now.kinds }
+    ensures { First (unitless (graph_in graph.now) units.now) (refusal_of result) }
 {
-    if units == 0 {
-        if kind < lowest {
-            return kind;
-        }
+    match unitless_kind(graph, units) {
+        Some(kind) => Err(Refusal::NoUnit(kind)),
+        None => Ok(()),
     }
-    lowest
-}
-
-// The lowest type in use that has no unit, or the number of types, whatever the edges are.
-fn unitless_kind(delays: &[u8], types: &[u8], kinds: usize, units: &[u8]) -> usize
-    requires delays_len { length delays.now ≡ length types.now }
-    requires by_index { (i : ℕ) → i < length delays.now → at types.now i < kinds }
-    requires units_len { length units.now ≡ kinds }
-    ensures { (from to : List ℕ) → LowestOr (NoUnit (lent delays.now types.now kinds from to) units.now) kinds result }
-{
-    let mut lowest = kinds;
-    let mut i = 0;
-    while i < delays.len() {
-        let kind = types[i] as usize;
-        lowest = lower(kind, units[kind], lowest);
-        i += 1;
-    }
-    lowest
-}
-
-// Refusal 6, of a sound graph: the lowest type in use that has no unit is refused. The edges are lent for the graph to be whole; no test reads them.
-fn unit_fault(
-    delays: &[u8],
-    types: &[u8],
-    kinds: usize,
-    from: &[u16],
-    to: &[u16],
-    units: &[u8],
-) -> Answer
-    requires sound { Sound (lent delays.now types.now kinds from.now to.now) }
-    requires units_len { length units.now ≡ kinds }
-    ensures { First (unitless (lent delays.now types.now kinds from.now to.now) units.now) (refusal_of result) }
-{
-    let kind = unitless_kind(delays, types, kinds, units);
-    if kind < kinds {
-        return Answer::Refused(Refusal::NoUnit(kind));
-    }
-    Answer::Done
 }
 
 // Refusals 1 to 4 and 6, of a question without an output row: the first that applies is given. Where `matched`, there is a unit count for each type.
-pub fn graph_unit_fault(
-    delays: &[u8],
-    types: &[u8],
-    kinds: usize,
-    from: &[u16],
-    to: &[u16],
-    units: &[u8],
-    matched: bool,
-) -> Answer
-    requires { matched ≡ true → length units.now ≡ kinds }
-    ensures { First (shape (lent delays.now types.now kinds from.now to.now) (matched ≡ false) ++ unitless (lent delays.now types.now kinds from.now to.now) units.now) (refusal_of result) }
+pub fn graph_unit_fault(graph: &Graph, units: &[u8], matched: bool) -> Result<(), Refusal>
+    requires { matched ≡ true → length units.now ≡ graph.now.kinds }
+    ensures { First (shape (graph_in graph.now) (matched ≡ false) ++ unitless (graph_in graph.now) units.now) (refusal_of result) }
 {
-    let fault = graph_fault(delays, types, kinds, from, to, matched);
-    match fault {
-        Answer::Refused(why) => Answer::Refused(why),
-        Answer::Done => unit_fault(delays, types, kinds, from, to, units),
-    }
+    graph_fault(graph, matched)?;
+    unit_fault(graph, units)
 }
 
 // Refusals 1 to 6: the first that applies is given. `room` is the length of the output row; where `matched`, there is a unit count for each type.
 pub fn front_unit_fault(
-    delays: &[u8],
-    types: &[u8],
-    kinds: usize,
-    from: &[u16],
-    to: &[u16],
+    graph: &Graph,
     units: &[u8],
     matched: bool,
     room: usize,
-) -> Answer
-    requires { matched ≡ true → length units.now ≡ kinds }
-    ensures { First ((shape (lent delays.now types.now kinds from.now to.now) (matched ≡ false) ++ output (lent delays.now types.now kinds from.now to.now) room) ++ unitless (lent delays.now types.now kinds from.now to.now) units.now) (refusal_of result) }
+) -> Result<(), Refusal>
+    requires { matched ≡ true → length units.now ≡ graph.now.kinds }
+    ensures { First ((shape (graph_in graph.now) (matched ≡ false) ++ output (graph_in graph.now) room) ++ unitless (graph_in graph.now) units.now) (refusal_of result) }
 {
-    let fault = front(delays, types, kinds, from, to, matched, room);
-    match fault {
-        Answer::Refused(why) => Answer::Refused(why),
-        Answer::Done => unit_fault(delays, types, kinds, from, to, units),
-    }
+    front(graph, matched, room)?;
+    unit_fault(graph, units)
 }

@@ -11,7 +11,7 @@ ghost use Rattle.theory.specs.order.PlacingSteps.{later, FirstStep};
 ghost use Rattle.earliest.specs.Widths.{heaviest};
 ghost use Rattle.earliest.specs.Round.{Known, Visit, Round, kth_of};
 
-use edge_links::LINKS;
+use edge_links::Links;
 use model::limits::OPERATIONS;
 use model::order::Order;
 
@@ -35,24 +35,23 @@ fn first_step(
     weights: &[u16],
     from: &[u16],
     to: &[u16],
-    links: &[u16; LINKS],
+    links: &Links,
     i: usize,
     starts: &[u32; OPERATIONS],
 ) -> u32
-    requires known { Known (ordered weights.now from.now to.now) starts.now links.now }
+    requires known { Known (ordered weights.now from.now to.now) starts.now links.now.row }
     requires i_in_bounds { i < length weights.now }
     ensures { FirstStep (ordered weights.now from.now to.now) starts.now i result }
 {
     let mut step = 1;
-    let mut edge = links[i] as usize;
-    while edge != 0 {
-        let e = edge - 1;
+    let mut edge = links.last(i);
+    while let Some(e) = edge {
         let source = from[e] as usize;
         step = after_edge(step, starts[source], weights[source]);
         if step == 0 {
             return 0;
         }
-        edge = links[OPERATIONS + e] as usize;
+        edge = links.before(e);
     }
     step
 }
@@ -62,11 +61,11 @@ fn visit(
     weights: &[u16],
     from: &[u16],
     to: &[u16],
-    links: &[u16; LINKS],
+    links: &Links,
     i: usize,
     starts: &mut [u32; OPERATIONS],
 ) -> usize
-    requires known { Known (ordered weights.now from.now to.now) starts.old links.now }
+    requires known { Known (ordered weights.now from.now to.now) starts.old links.now.row }
     requires i_in_bounds { i < length weights.now }
     ensures { Visit (ordered weights.now from.now to.now) i starts.old starts.new result }
 {
@@ -94,11 +93,11 @@ fn round(
     weights: &[u16],
     from: &[u16],
     to: &[u16],
-    links: &[u16; LINKS],
+    links: &Links,
     up: bool,
     starts: &mut [u32; OPERATIONS],
 ) -> usize
-    requires { Known (ordered weights.now from.now to.now) starts.old links.now }
+    requires { Known (ordered weights.now from.now to.now) starts.old links.now.row }
     ensures { Round (ordered weights.now from.now to.now) starts.old starts.new result }
 {
     let mut placed = 0;

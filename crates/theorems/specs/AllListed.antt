@@ -1,4 +1,4 @@
--- Demand 3: the test for a lawful schedule tells, and from first, asking each time for the next, gives the definition's list: each lawful schedule once,
+-- The test for a lawful schedule tells, and from first, asking each time for the next, gives the definition's list: each lawful schedule once,
 -- rising, and none left exactly when none is left.
 use Rattle.std.specs.Prelude.{◌≡◌, refl, ℕ, ◌+◌, ◌≤◌, ◌<◌, length}
 use Rattle.std.proofs.Common.{ap, subst, arith}
@@ -72,7 +72,7 @@ module _ (g : Graph) (units : List ℕ) (bound : ℕ) where
   asked_all_one rows more (AskedAll.from {t = t} l r) (AskedAll.from {t = v} k s) =
       asked_one r more (subst (λ (w : List ℕ). Asked g units bound w more) (least_one g units bound none v t k l) s)
 
--- ---- demand 3
+-- ---- the definition's list, and what asking gives
 module _ (g : Graph) (sound : Sound g) (units : List ℕ) (bound : ℕ) where
   -- the definition's list has the lawful schedules and no other row
   pub listed_lawful : (t : List ℕ) → Among t (all_lawful g units bound) → Lawful g units bound t

@@ -1,4 +1,4 @@
--- The rule in 01's own words, candidates starting one after another: however the types are interleaved it ends, and it ends at what `stepped` says.
+-- The rule as it is told, candidates starting one after another: however the types are interleaved it ends, and it ends at what `stepped` says.
 use Rattle.std.specs.Prelude.{◌≡◌, refl, ◌⊎◌, Bool, true, List, eqb, ltb, length, set}
 use Rattle.std.proofs.Common.{sym, ap, subst, ◌∙◌, inl, inr, not-suc-le-zero, arith, get_or-set_other}
 use Rattle.std.proofs.Math.Logic.{⊎_elim}
@@ -105,7 +105,7 @@ module _ (g : Graph) (labels units t : List ℕ) (l : ℕ) (wide : many g ≤ le
       let i = s.number in
       let more = ends fuel (set x i l) (omega (arith, length-set x i l))
       (omega (arith, fewer x i room s.next.inside s.next.waiting)) in
-      record { row = more.row; run = start s.next more.run })
+      record { row = more.row; run = start {u = more.row} s.next more.run })
       (λ none. record { row = x; run = stop (λ i n. none i n.inside (next_opens x i n)) })
       (some_or_none (opens x) (many g))
 

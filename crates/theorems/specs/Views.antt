@@ -1,4 +1,4 @@
--- Each refusal of a view is given exactly when 01 says, and a view lies in its own table's memory, never in the other's.
+-- Each refusal of a view is given exactly when its rule says, and a view lies in its own table's memory, never in the other's.
 use Rattle.std.specs.Prelude.{◌≡◌, ◌⊎◌, drop}
 use Rattle.std.proofs.Common.{sym, ◌∙◌, inl, inr, ⊎_elim, arith}
 use Rattle.std.proofs.Math.Path.{ap, subst}
@@ -6,12 +6,13 @@ use Rattle.std.proofs.Math.Option.{Option, none, some}
 use Prim.Native.Nat.{ℕ, ◌+◌}
 use Rattle.std.proofs.Math.ListN.{length, length-drop}
 use Rattle.std.proofs.Math.Seq.{length-take-le}
+use Rattle.std.specs.declared.option.Option.TheVariants.{None, Some}
 use Rattle.maths.specs.Cases.{same_or_not, le_or_lt}
-use Rattle.model.specs.Refusals.{First, NoChannel}
-use Rattle.model.specs.Views.{PartOf, PartAfter, Viewed, number_or0, ViewRefusal}
+use Rattle.model.specs.Refusals.{NoChannel}
+use Rattle.model.specs.Views.{PartOf, PartAfter, Viewed, ViewRefusal}
 use Rattle.model.specs.Channels.{Table, chosen}
-use Rattle.model.specs.Checks.{view_checks}
-use Rattle.theory.specs.views.OneView.{Available, Named, PastEnd, passes, refuses_channel, refuses_range, view_checks_one}
+use Rattle.model.specs.declared.Refusal.TheVariants.{Channel, Range}
+use Rattle.theory.specs.views.OneView.{Available, Named, PastEnd, passes, refuses_channel, refuses_range, view_checks_one, view_refusal_one}
 
 -- a channel is one of the two or neither
 named_or_not : (channel : ℕ) → Named channel ⊎ NoChannel channel
@@ -34,34 +35,34 @@ module _ (a b : Table) (channel first count : ℕ) where
       (λ n. inr (inl n))
       (named_or_not channel)
 
-  -- what the checks say is the number's
-  number_is : {n : ℕ} (x : Option (ℕ × ℕ)) → First (view_checks a b channel first count) x → ViewRefusal a b channel first count n → n ≡ number_or0 x
-  number_is x f v = v.is ∙ ap number_or0 (view_checks_one a b channel first count v.refusal x v.checked f)
-
-  -- 0 only where the part is available
-  pub available : ViewRefusal a b channel first count 0 → Available a b channel first count
+  -- no refusal is named only where the part is available
+  pub available : ViewRefusal a b channel first count None → Available a b channel first count
   available v =
       ⊎_elim
       (λ h. h)
       (⊎_elim
-      (λ n. absurd (omega (arith, number_is _ (refuses_channel a b channel first count n) v)))
-      (λ p. absurd (omega (arith, number_is _ (refuses_range a b channel first count p) v))))
+      (λ n. absurd (cc (view_refusal_one a b channel first count None (Some Channel) v (refuses_channel a b channel first count n))))
+      (λ p. absurd (cc (view_refusal_one a b channel first count None (Some Range) v (refuses_range a b channel first count p)))))
       one_of_three
 
-  -- 12 only where the channel is neither
-  pub no_channel : ViewRefusal a b channel first count 12 → NoChannel channel
+  -- the channel's only where it is neither
+  pub no_channel : ViewRefusal a b channel first count (Some Channel) → NoChannel channel
   no_channel v =
       ⊎_elim
-      (λ h. absurd (omega (arith, number_is _ (passes a b channel first count h) v)))
-      (⊎_elim (λ n. n) (λ p. absurd (omega (arith, number_is _ (refuses_range a b channel first count p) v))))
+      (λ h. absurd (cc (view_refusal_one a b channel first count (Some Channel) None v (passes a b channel first count h))))
+      (⊎_elim
+      (λ n. n)
+      (λ p. absurd (cc (view_refusal_one a b channel first count (Some Channel) (Some Range) v (refuses_range a b channel first count p)))))
       one_of_three
 
-  -- 13 only where the table ends before the part does
-  pub past_end : ViewRefusal a b channel first count 13 → PastEnd a b channel first count
+  -- the range's only where the table ends before the part does
+  pub past_end : ViewRefusal a b channel first count (Some Range) → PastEnd a b channel first count
   past_end v =
       ⊎_elim
-      (λ h. absurd (omega (arith, number_is _ (passes a b channel first count h) v)))
-      (⊎_elim (λ n. absurd (omega (arith, number_is _ (refuses_channel a b channel first count n) v))) (λ p. p))
+      (λ h. absurd (cc (view_refusal_one a b channel first count (Some Range) None v (passes a b channel first count h))))
+      (⊎_elim
+      (λ n. absurd (cc (view_refusal_one a b channel first count (Some Range) (Some Channel) v (refuses_channel a b channel first count n))))
+      (λ p. p))
       one_of_three
 
   -- the part handed back lies in the chosen table's memory, whatever the checks say

@@ -1,18 +1,20 @@
 -- `placed_with_units` meets its contract: what refusals 1 to 6 say, or else the seventh.
+use Rattle.std.proofs.lemmas.Result.{err_from_is_err_and}
 use Rattle.model.specs.Refusals.{cyclic}
-use Rattle.theory.specs.refusals.RefusalNumbers.{first_told}
 use Rattle.theory.specs.refusals.RowAfterwards.{front_unit_unwritten}
 use Rattle.theory.specs.refusals.SoundGraph.{closed}
 use Rattle.admission.specs.AdmissionLaws.{admitted_stopped, admitted_passed, passed_sound, passed_room}
 use Rattle.admission.proofs.placed_with_units.Goals as goal
 
+pub returns-in_err-front_unit_fault : goal.returns-in_err-front_unit_fault
+returns-in_err-front_unit_fault c =
+    let given = err_from_is_err_and c.from_residual.result c.from_residual.ensures.1 in rw (given.1, given.2) (admitted_stopped _ (cyclic _) (front_unit_unwritten _ _ _ _) c.in_err-front_unit_fault.ensures)
+
+pub invariant_of-place : goal.invariant_of-place
+invariant_of-place c = record { closed = closed _ (passed_sound _ _ _ c.in_ok-front_unit_fault.ensures) }
+
 pub place-requires : goal.place-requires
-place-requires c =
-    let told = first_told _ c.in-Done.is c.front_unit_fault-fault.ensures in
-    record { closed = closed _ (passed_sound _ _ _ told); delays_in_bounds = passed_room _ _ _ _ told }
+place-requires c = record { room = passed_room _ _ _ _ c.in_ok-front_unit_fault.ensures }
 
-pub returns-in-Refused : goal.returns-in-Refused
-returns-in-Refused c = admitted_stopped _ (cyclic _) (front_unit_unwritten _ _ _ _) c.front_unit_fault-fault.ensures c.in-Refused.is
-
-pub returns-in-Done : goal.returns-in-Done
-returns-in-Done c = admitted_passed _ (cyclic _) (first_told _ c.in-Done.is c.front_unit_fault-fault.ensures) c.place.ensures
+pub returns : goal.returns
+returns c = admitted_passed _ (cyclic _) c.in_ok-front_unit_fault.ensures c.place.ensures

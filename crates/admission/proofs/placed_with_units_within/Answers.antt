@@ -1,16 +1,19 @@
 -- `placed_with_units_within` meets its contract: what `placed_with_units` refuses, or else the eighth and the ninth decide.
+use Rattle.std.proofs.lemmas.Result.{err_from_is_err_and}
 use Rattle.theory.specs.refusals.SoundGraph.{closed}
 use Rattle.admission.specs.Admitted.{bound_checks}
 use Rattle.admission.specs.AdmissionLaws.{admitted_handed, admitted_sound, admitted_starts, admitted_then}
 use Rattle.admission.proofs.placed_with_units_within.Goals as goal
 
+pub returns-in_err-starts : goal.returns-in_err-starts
+returns-in_err-starts c =
+    let given = err_from_is_err_and c.from_residual.result c.from_residual.ensures.1 in rw (given.1, given.2) (admitted_handed c.in_err-starts.ensures (bound_checks _ _))
+
+pub invariant_of-within : goal.invariant_of-within
+invariant_of-within c = record { closed = closed _ (admitted_sound c.in_ok-starts.ensures) }
+
 pub within-requires : goal.within-requires
-within-requires c =
-    let told = c.in-Done.is in
-    record { closed = closed _ (admitted_sound c.placed_with_units-begun.ensures told); starts_row = admitted_starts c.placed_with_units-begun.ensures told }
+within-requires c = admitted_starts c.in_ok-starts.ensures
 
-pub returns-in-Refused : goal.returns-in-Refused
-returns-in-Refused c = admitted_handed c.placed_with_units-begun.ensures (bound_checks _ _) c.in-Refused.is
-
-pub returns-in-Done : goal.returns-in-Done
-returns-in-Done c = admitted_then c.placed_with_units-begun.ensures c.in-Done.is (bound_checks _ _) c.within.ensures
+pub returns : goal.returns
+returns c = admitted_then c.in_ok-starts.ensures (bound_checks _ _) c.within.ensures

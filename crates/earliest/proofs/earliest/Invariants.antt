@@ -5,7 +5,7 @@ use Rattle.earliest.proofs.Rounds.{RoundsSoFar}
 use Rattle.earliest.proofs.earliest.Given as goal
 
 abbrev pub invariant-loop-links : goal.invariant-loop-links
-invariant-loop-links l = RoundsSoFar (ordered l.weights l.from l.to) l.starts l.links l.total
+invariant-loop-links l = RoundsSoFar (ordered l.weights l.from l.to) l.starts l.links.row l.total
 
 abbrev pub decreases-loop-links : goal.decreases-loop-links
 decreases-loop-links l = length l.weights - l.total

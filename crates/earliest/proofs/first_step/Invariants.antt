@@ -1,5 +1,6 @@
--- `earliest::first_step` meets its contract. The loop keeps `WalkingBack`: the edges past the link are seen. The link falls.
+-- `earliest::first_step` meets its contract. The loop keeps `WalkingBack`: the edges passed are seen. The link falls.
 use Rattle.model.specs.Order.{ordered}
+use Rattle.edge_links.specs.Linking.{link_of}
 use Rattle.earliest.proofs.WalkingBack.{WalkingBack}
 use Rattle.earliest.proofs.first_step.Given as goal
 
@@ -7,4 +8,4 @@ abbrev pub invariant-loop-edge : goal.invariant-loop-edge
 invariant-loop-edge l = WalkingBack (ordered l.weights l.from l.to) l.starts l.i l.step l.edge
 
 abbrev pub decreases-loop-edge : goal.decreases-loop-edge
-decreases-loop-edge l = l.edge
+decreases-loop-edge l = link_of l.edge

@@ -1,18 +1,18 @@
 -- `front_unit_fault` answers by the first of the refusals 1 to 6 that applies: what the first five say, or else the sixth.
-use Rattle.theory.specs.refusals.RefusalNumbers.{first_told}
+use Rattle.std.proofs.lemmas.Result.{err_from_is_err_and}
 use Rattle.theory.specs.refusals.FirstRefusal.{first_hit, first_pass}
 use Rattle.admission.proofs.Manned.{manned_front}
 use Rattle.admission.proofs.shape.front_unit_fault.Goals as goal
 
-pub unit_fault-requires : goal.unit_fault-requires
-unit_fault-requires c =
-    let asked = manned_front _ c.args.units.now _ c.requires _ (first_told _ c.in-Done.is c.front-fault.ensures) in record { sound = asked.0; units_len = asked.1 }
+pub returns-in_err-front : goal.returns-in_err-front
+returns-in_err-front c =
+    let given = err_from_is_err_and c.from_residual.result c.from_residual.ensures.1 in rw (given.1, given.2) (first_hit _ _ _ c.in_err-front.ensures)
 
-pub returns-in-Refused : goal.returns-in-Refused
-returns-in-Refused c =
-    first_hit _ _ _ (first_told _ c.in-Refused.is c.front-fault.ensures)
+pub unit_fault-requires-clause-sound : goal.unit_fault-requires-clause-sound
+unit_fault-requires-clause-sound c = (manned_front _ c.args.units.now _ c.requires _ c.in_ok-front.ensures).0
 
-pub returns-in-Done : goal.returns-in-Done
-returns-in-Done c =
-    first_pass _ _ _ (first_told _ c.in-Done.is c.front-fault.ensures)
-    c.unit_fault.ensures
+pub unit_fault-requires-clause-units_len : goal.unit_fault-requires-clause-units_len
+unit_fault-requires-clause-units_len c = (manned_front _ c.args.units.now _ c.requires _ c.in_ok-front.ensures).1
+
+pub returns : goal.returns
+returns c = first_pass _ _ _ c.in_ok-front.ensures c.unit_fault.ensures

@@ -1,20 +1,14 @@
--- `unitless_kind` answers the lowest type in use that has no unit: it is the lowest over the operations passed.
-use Rattle.std.proofs.Common.{arith}
-use Rattle.admission.proofs.Unitless.{so_far_none, so_far_step, so_far_end}
+-- `unitless_kind` answers the lowest type in use that has no unit: one passed has a unit, or is not in use.
+use Rattle.maths.specs.Search.{none_further}
 use Rattle.admission.proofs.shape.unitless_kind.Goals as goal
+use Rattle.admission.proofs.shape.unitless_kind.Goals.{else-count-eq0-via-then-count-eq0+else-is_used, else-count-eq0-via-else-count-eq0}
 
-pub loop-i-init : goal.loop-i-init
-loop-i-init c = (omega arith, so_far_none)
-
-pub overflow_cast-kind : goal.overflow_cast-kind
-overflow_cast-kind c = omega (arith, c.type_inv.types c.loop-i.i)
-
-pub bounds-units-kind : goal.bounds-units-kind
-bounds-units-kind c =
-    omega (arith, c.requires.by_index c.loop-i.i (omega arith), c.requires.units_len)
-
-pub loop-i-preserved : goal.loop-i-preserved
-loop-i-preserved c = (omega arith, so_far_step c.loop-i.invariant.1 c.lower-lowest.ensures)
-
-pub returns : goal.returns
-returns c = λ from to. so_far_end _ from to c.loop-i.invariant.1 (omega arith)
+pub loop-kind-preserved : goal.loop-kind-preserved
+loop-kind-preserved c =
+    none_further c.loop-kind.invariant
+    (λ h.
+    elim c.else-count-eq0.branch [
+      | else-count-eq0-via-then-count-eq0+else-is_used w ↦
+          w.is_used.ensures.none w.if-is_used.false (record { user = h.user; inside = h.inside; uses = h.uses })
+      | else-count-eq0-via-else-count-eq0 w ↦ w.if-count-eq0.false h.none
+    ])

@@ -1,10 +1,8 @@
--- `unitless_kind` answers the lowest type in use that has no unit: it is the lowest over the operations passed.
-use Rattle.std.proofs.Common.{◌-◌, ◌≤◌, length}
-use Rattle.admission.proofs.Unitless.{SoFar}
+-- `unitless_kind` answers the lowest type in use that has no unit: none of those passed is one.
+use Rattle.maths.specs.Lowest.{None}
+use Rattle.model.specs.Lent.{graph_in}
+use Rattle.model.specs.Refusals.{NoUnit}
 use Rattle.admission.proofs.shape.unitless_kind.Given as goal
 
-abbrev pub invariant-loop-i : goal.invariant-loop-i
-invariant-loop-i l = (l.i ≤ length l.delays) × SoFar l.types l.units l.kinds l.lowest l.i
-
-abbrev pub decreases-loop-i : goal.decreases-loop-i
-decreases-loop-i l = length l.delays - l.i
+abbrev pub invariant-loop-kind : goal.invariant-loop-kind
+invariant-loop-kind l = None (NoUnit (graph_in l.graph) l.units) l.kind
