@@ -1,5 +1,5 @@
 -- The reply to a question about the graph that was read is the one to the graph of the bytes.
-use Rattle.std.proofs.Common.{◌≡◌, List, ℕ, ◌+◌, ◌*◌, sym, subst, refl, Result}
+use Rattle.std.proofs.Common.{◌≡◌, List, ℕ, ◌*◌, subst, refl, Result}
 use Rattle.model.specs.Graph.{Graph, lent}
 use Rattle.engine.specs.Frame.{eight, bytes_at, words_at, past_bytes, past_words, types_from, from_from, to_from, rest_from, graph_in}
 use Rattle.engine.specs.Numbers.{numbers_of}

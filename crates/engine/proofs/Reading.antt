@@ -1,5 +1,5 @@
 -- A row that was read entry by entry is the one that the bytes hold.
-use Rattle.std.proofs.Common.{◌≡◌, List, ℕ, ◌+◌, ◌*◌, ◌≤◌, ◌<◌, ◌++◌, length, take, drop, get_or, sym, ap, ◌∙◌, arith}
+use Rattle.std.proofs.Common.{◌≡◌, List, ℕ, ◌+◌, ◌*◌, ◌<◌, ◌++◌, length, take, get_or, sym, ap, ◌∙◌, arith}
 use lib.Seq.{take_at}
 use Rattle.std.proofs.lemmas.Grind.{common_steps}
 use Rattle.maths.specs.Rows.{at, tabulate, tabulate_at, tabulate_long, same_row}

@@ -1,5 +1,5 @@
 -- What is replied to each question: what the face says of the numbers and rows in the question's bytes.
-use Rattle.std.specs.Prelude.{◌≡◌, List, [], ◌∷◌, ℕ, ◌+◌, ◌*◌, ◌≤◌, length, take, Result, IfOk, Some, None}
+use Rattle.std.specs.Prelude.{◌≡◌, List, [], ◌∷◌, ℕ, ◌+◌, ◌≤◌, length, take, Result, IfOk, Some, None}
 use Rattle.std.proofs.Math.Option.{none, some}
 use Rattle.model.specs.Graph.{Graph, lent}
 use Rattle.model.specs.Answers.{AsapAnswer, AlapAnswer, MobilityAnswer}
@@ -17,7 +17,6 @@ use Rattle.pedal.specs.declared.Advanced.{Advanced}
 use Rattle.pedal.specs.declared.Part.{Part}
 use Rattle.engine.specs.Frame.{longest, four, past_bytes, past_words, bytes_at, words_at}
 use Rattle.engine.specs.declared.reply.Reply.{Reply}
-use Rattle.engine.specs.declared.cursor.Row.{Row}
 use Rattle.engine.specs.declared.fault.Fault.{Fault}
 use Rattle.engine.specs.declared.graph.Graph as lent_rows
 

@@ -1,5 +1,5 @@
 -- What is known of the rows that are read from a question's bytes.
-use Rattle.std.specs.Prelude.{◌≡◌, List, ℕ, ◌+◌, ◌*◌, ◌≤◌, length, take}
+use Rattle.std.specs.Prelude.{◌≡◌, List, ℕ, ◌+◌, ◌≤◌, length, take}
 use Rattle.engine.specs.Frame.{longest, four, words_at, past_words}
 use Rattle.engine.specs.declared.cursor.Row.{Row}
 

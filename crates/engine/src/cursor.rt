@@ -14,10 +14,10 @@ pub struct Row {
 }
 
 // A question's bytes, and how far they are read.
-#[derive(Clone, Copy)]
+#[derive(Drop)]
 pub struct Cursor<'a> {
-    pub bytes: &'a [u8],
-    pub at: usize,
+    bytes: &'a [u8],
+    at: usize,
     ghost within: { at ≤ length bytes.now },
 }
 
@@ -84,7 +84,7 @@ impl<'a> Cursor<'a> {
         self.take(len)
     }
 
-    // The next row, one of two-byte numbers, is read over the first entries of another. Where it lies.
+    // The next row, one of two-byte numbers, is read over the first entries of another, and is too long where that is shorter. Where it lies.
     pub fn words(&mut self, into: &mut [u16]) -> Result<Row, Fault>
         ensures same { self.new.bytes.now ≡ self.old.bytes.now }
         ensures read { IfOk result (λ r. WordsRead self.old.bytes.now self.old.at r into.new self.new.at) }

@@ -5,7 +5,8 @@ use crate::fault::Fault;
 use std::io::{Read, Stdin, Stdout, Write};
 use std::ops::ControlFlow;
 
-// Reads until `bytes` is full, the input ends or a read fails. How many bytes came: std's `read_exact` does not say that.
+// Reads until `bytes` is full, the input ends or a read fails. How many bytes came: `read_exact` of std does not say that. Each read
+// brings as many bytes as it likes, so the loop is no `for`.
 pub fn read_full(mut input: Stdin, bytes: &mut [u8]) -> usize
     ensures at_most_all { result ≤ length bytes.new }
     ensures same_length { length bytes.new ≡ length bytes.old }

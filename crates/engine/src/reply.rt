@@ -4,7 +4,8 @@ ghost use Rattle.std.specs.Prelude.{◌≡◌, ◌≤◌, length, take};
 use crate::cursor::Row;
 use crate::sizes::NUMBERS;
 
-// A reply: the answer's numbers, the first `count` of those here, and where the row that was written lies in the question's bytes, if one was.
+// A reply: the answer's numbers, the first `count` in an array that has room for the most, since memory is fixed; and where the row
+// that was written lies in the question's bytes, if one was.
 #[derive(Clone, Copy)]
 pub struct Reply {
     pub numbers: [usize; NUMBERS],

@@ -12,6 +12,9 @@ use crate::sizes::{FRAME, HEAD, LONGEST, MOST};
 use std::io::{Stdin, Stdout};
 use std::ops::ControlFlow;
 
+// The kind of an answer to a question that was asked.
+const ASKED: u32 = 0;
+
 // What stands before a question's bytes: its number, and their size, which the frame has room for.
 #[derive(Clone, Copy)]
 struct Head {
@@ -82,7 +85,7 @@ impl Engine {
         }
         let count = reply.count;
         let begin = HEAD - 8 * count - 8;
-        lay_four(0, &mut self.frame, begin);
+        lay_four(ASKED, &mut self.frame, begin);
         lay_four((8 * count + size) as u32, &mut self.frame, begin + 4);
         lay_numbers(&reply.numbers[..count], &mut self.frame, begin + 8);
         begin

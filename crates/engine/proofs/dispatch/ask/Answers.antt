@@ -1,5 +1,5 @@
 -- `ask` replies to the question that has the number.
-use Rattle.std.proofs.Common.{rules, sym, ap, ◌∙◌}
+use Rattle.std.proofs.Common.{sym, ap, ◌∙◌}
 use Rattle.engine.specs.Dispatch.{Answers}
 use Rattle.engine.specs.Numbers.{number_of}
 use Rattle.engine.specs.declared.question.Question.TheVariants as questions

@@ -14,7 +14,8 @@ returns c =
       lies = search rules;
       says = record {
         said = c.pedal_list-said.result;
-        is = said_of (λ units before after. HandsOn (λ a. ListAnswer (graph_of c.args.self.now) units before a after) scheduled_of) c.pedal_list-said.new.out _ _ c.pedal_list-said.ensures (search rules) (search rules) (search rules);
+        is = said_of (λ units before after. HandsOn (λ a. ListAnswer (graph_of c.args.self.now) units before a after) scheduled_of)
+            c.pedal_list-said.new.out _ _ c.pedal_list-said.ensures (search rules) (search rules) (search rules);
         told = search rules;
       };
     }
