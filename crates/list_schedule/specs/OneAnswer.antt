@@ -1,4 +1,4 @@
--- The contracts of `fresh` and `advance` leave one value: the answer, the starts and the step. (That of `list_schedule`: `list_answer_one` of model.)
+-- The contracts of `fresh` and `advance` leave one value: the answer, the starts and the step. (That of `list_schedule`: `list_answer_one` of theory.)
 use Rattle.std.specs.Prelude.{◌≡◌, List, ℕ, replicate}
 use Rattle.model.specs.Limits as limit
 use Rattle.model.specs.Graph.{Graph}

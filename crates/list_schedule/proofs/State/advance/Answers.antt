@@ -1,5 +1,6 @@
 -- Each way out is an outcome that the contract allows, by what was asked on the way there.
-use Rattle.std.proofs.Common.{◌≤◌, ◌<◌, ◌⊎◌, sym, ◌∙◌, arith}
+use Rattle.std.proofs.Common.{◌≤◌, ◌<◌, ◌⊎◌, inl, inr, ⊎_elim, sym, ◌∙◌, arith}
+use Rattle.std.specs.Range.{range_inclusive_end}
 use Rattle.std.proofs.lemmas.Bool.Decides.{nat_tests}
 use Rattle.model.specs.Limits as limit
 use Rattle.std.proofs.lemmas.Result.{err_from_is_err_and}
@@ -22,8 +23,9 @@ pub returns-then-not-contains : goal.returns-then-not-contains
 returns-then-not-contains c =
     let a = c.args in
     let told = sym c.contains.ensures.value ∙ c.if-not-contains.true in
-    let out : (a.self.now.step < 1) ⊎ (limit.steps < a.self.now.step) = grind (arith, nat_tests) in
-    advance_outside (graph_in a.graph.now) a.units.now a.self.now.starts a.self.now.step c.in_ok-graph_with_units.ensures (c.full.ensures.none c.if-full.false) out
+    let out : (a.self.now.step < 1) ⊎ (range_inclusive_end c.new.result < a.self.now.step) = grind (arith, nat_tests) in
+    advance_outside (graph_in a.graph.now) a.units.now a.self.now.starts a.self.now.step c.in_ok-graph_with_units.ensures (c.full.ensures.none c.if-full.false)
+    (⊎_elim (λ l. inl l) (λ l. inr (omega (arith, c.new.ensures.end))) out)
 
 pub invariant_of-work : goal.invariant_of-work
 invariant_of-work c =
