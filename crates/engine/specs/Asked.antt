@@ -97,7 +97,7 @@ AdvanceReply g step b rest =
 -- the checker: units, then starts
 abbrev pub CheckReply : Graph → ℕ → List ℕ → ℕ → Result Reply Fault → Type 0
 CheckReply g bound b rest =
-    PlainReply b (past_bytes b rest) (HandsOn (Checked g (bytes_at b rest) bound (words_at b (past_bytes b rest))) (λ v. verdict_of v.finding)) verdict_numbers
+    PlainReply b (past_bytes b rest) (HandsOn (Checked g (bytes_at b rest) bound (words_at b (past_bytes b rest))) verdict_of) verdict_numbers
 
 -- peak use: starts
 abbrev pub PeakReply : Graph → List ℕ → ℕ → Result Reply Fault → Type 0
