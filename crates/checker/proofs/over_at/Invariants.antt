@@ -4,4 +4,4 @@ use Rattle.checker.specs.Tally.{OverCell}
 use Rattle.checker.proofs.over_at.Given as goal
 
 abbrev pub invariant-loop-kind : goal.invariant-loop-kind
-invariant-loop-kind l = None (OverCell l.tally l.units l.step) l.kind
+invariant-loop-kind l = None (OverCell l.row l.units) l.kind
