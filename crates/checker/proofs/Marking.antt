@@ -1,121 +1,103 @@
--- Marking step by step: after each, the steps passed are marked and no other counter moved.
-use mathlib.Core.Path.{◌≡◌, refl, sym, ap, subst, ◌∙◌}
+-- Marking row by row: after each, the rows passed have one counter more and no other row changed.
+use mathlib.Core.Path.{◌≡◌, sym, ap, subst, ◌∙◌}
 use mathlib.Core.Logic.{⊎_elim}
-use mathlib.Core.Bool.{Bool}
-use mathlib.Core.List.{List, []}
-use Prim.Native.Nat.{ℕ, ◌+◌, ◌≤◌, ◌<◌}
+use mathlib.Core.List.{List, [], ◌++◌}
+use Prim.Native.Nat.{ℕ, ◌+◌, ◌-◌, ◌≤◌, ◌<◌}
 use native.Mathlib.Omega.{arith}
-use lib.ListN.{length, set, length-set}
-use lib.Seq.{get_or-set_same, get_or-set_other}
-use Rattle.maths.specs.Cases.{same_or_not, lt_or_le}
+use lib.ListN.{length, set, take, drop, length-set, length-append, length-drop, get_or-append}
+use lib.Seq.{get_or-set_same, get_or-set_other, get_or-take, get_or-drop, get_or-append_right, length-take-le}
+use Rattle.maths.specs.Cases.{same_or_not, lt_or_le, le_or_lt}
 use Rattle.maths.specs.Rows.{at}
 use Rattle.maths.specs.Count.{bit}
 use Rattle.model.specs.Limits as limit
-use Rattle.theory.specs.unit_use.RunningInNumbers.{runs_for, for_other, for_early, for_over, for_runs, for_end}
-use Rattle.checker.specs.Tally.{row, cell, Rows, Markable, Marked}
+use Rattle.theory.specs.unit_use.RunningInNumbers.{runs_for, for_other, for_early, for_over, for_runs}
+use Rattle.checker.specs.Tally.{row, cell, Markable, Marked}
 
--- what the tally is after the steps to before `step`, none of them past the last
-pub record Marking (before : List (List ℕ)) (kind start last step : ℕ) (tally : List (List ℕ)) : Type 0 where
-  pub from : start ≤ step
-  pub to : step ≤ last + 1
-  pub marked : Marked before kind start step tally
+-- a row with one counter more
+abbrev one_more : List ℕ → ℕ → List ℕ
+one_more r kind = set r kind (at r kind + 1)
 
--- the tally with one counter more
-abbrev raised : List (List ℕ) → ℕ → ℕ → List (List ℕ)
-raised tally step kind = set tally step (set (row tally step) kind (cell tally step kind + 1))
+-- the first `passed` rows have one counter more, the others are as they were
+pub record Raised (before : List (List ℕ)) (kind : ℕ) (after : List (List ℕ)) (passed : ℕ) : Type 0 where
+  pub done : (j : ℕ) → j < passed → j < length before → row after j ≡ one_more (row before j) kind
+  pub rest : (j : ℕ) → passed ≤ j → row after j ≡ row before j
 
--- its rows are as long as they were, that counter is one higher, and every other stays
-module _ {tally : List (List ℕ)} {step kind : ℕ} (rows : Rows tally) (inside : step ≤ limit.steps) (kind_in : kind < limit.kinds) where
-  raised_here : row (raised tally step kind) step ≡ set (row tally step) kind (cell tally step kind + 1)
-  raised_here = get_or-set_same tally step _ [] (omega (arith, rows.long))
+-- the steps' rows, taken out of the tally and put back with one counter more, are the mark
+module _ {before part : List (List ℕ)} {kind start last wide passed : ℕ} (can : Markable before kind start last)
+    (steps : wide ≡ last + 1 - start) (raised : Raised (take wide (drop start before)) kind part passed)
+    (long : length part ≡ length (take wide (drop start before))) (all : length part ≤ passed) where
+  abbrev marked : List (List ℕ)
+  marked = take start before ++ (part ++ drop wide (drop start before))
 
-  raised_rows : Rows (raised tally step kind)
-  raised_rows = record {
-    long = length-set tally step _ ∙ rows.long;
-    wide = λ l p.
-        ⊎_elim
-        (λ e.
-        subst (λ (l : ℕ). length (row (raised tally step kind) l) ≡ limit.kinds) (sym e)
-        (ap length raised_here ∙ length-set (row tally step) kind _ ∙ rows.wide step inside))
-        (λ n. ap length (get_or-set_other tally step l _ [] n) ∙ rows.wide l p)
-        (same_or_not l step);
-  }
+  front : length (take start before) ≡ start
+  front = length-take-le start before (omega (arith, can.rows.long, can.forward, can.last_in))
 
-  raised_this : cell (raised tally step kind) step kind ≡ cell tally step kind + 1
-  raised_this = ap (λ (r : List ℕ). at r kind) raised_here ∙ get_or-set_same (row tally step) kind _ 0 (omega (arith, rows.wide step inside))
+  part_long : length part ≡ wide
+  part_long = long ∙ length-take-le wide (drop start before) (omega (arith, length-drop start before, can.rows.long, can.last_in))
 
-  raised_kind : (k : ℕ) → (k ≡ kind → ⊥) → cell (raised tally step kind) step k ≡ cell tally step k
-  raised_kind k n = ap (λ (r : List ℕ). at r k) raised_here ∙ get_or-set_other (row tally step) kind k _ 0 n
+  row_early : (l : ℕ) → l < start → row marked l ≡ row before l
+  row_early l e = get_or-append (take start before) _ [] l (omega (arith, front)) ∙ get_or-take start before l [] e
 
-  raised_step : (l k : ℕ) → (l ≡ step → ⊥) → cell (raised tally step kind) l k ≡ cell tally l k
-  raised_step l k n = ap (λ (r : List ℕ). at r k) (get_or-set_other tally step l _ [] n)
+  row_late : (l : ℕ) → last < l → row marked l ≡ row before l
+  row_late l e =
+      get_or-append_right (take start before) _ l [] (omega (arith, front, can.forward))
+      ∙ get_or-append_right part _ (l - length (take start before)) [] (omega (arith, front, part_long, can.forward))
+      ∙ get_or-drop wide (drop start before) _ []
+      ∙ get_or-drop start before _ []
+      ∙ ap (row before) (omega (arith, front, part_long, can.forward))
 
-module _ {before : List (List ℕ)} {kind start last : ℕ} (can : Markable before kind start last) where
-  pub marking_none : Marking before kind start last start before
-  marking_none = record {
-    from = omega arith;
-    to = omega (arith, can.forward);
-    marked = record {
-      rows = can.rows;
-      counters = λ l k p q.
-          ⊎_elim
-          (λ e. omega (arith, ap bit (for_early kind start start k l e)))
-          (λ e. omega (arith, ap bit (for_over kind start start k l e)))
-          (lt_or_le l start);
+  row_here : (l : ℕ) → start ≤ l → l ≤ last → row marked l ≡ one_more (row before l) kind
+  row_here l e f =
+      let j = l - length (take start before) in
+      let same : row (take wide (drop start before)) j ≡ row before l =
+      get_or-take wide (drop start before) j [] (omega (arith, front))
+      ∙ get_or-drop start before j []
+      ∙ ap (λ (m : ℕ). row before m) (omega (arith, front)) in
+      get_or-append_right (take start before) _ l [] (omega (arith, front))
+      ∙ get_or-append part _ [] j (omega (arith, front, part_long))
+      ∙ raised.done j (omega (arith, front, part_long)) (omega (arith, front, part_long))
+      ∙ ap (λ (r : List ℕ). one_more r kind) same
+
+  -- what holds of each row as it was, and of each row with one counter more, holds of the rows now
+  each : (P : ℕ → List ℕ → Type 0) (l : ℕ) → (l < start → P l (row before l)) → (last < l → P l (row before l))
+      → (start ≤ l → l ≤ last → P l (one_more (row before l) kind)) → P l (row marked l)
+  each P l early late here =
+      ⊎_elim
+      (λ e. subst (P l) (sym (row_early l e)) (early e))
+      (λ e.
+      ⊎_elim
+      (λ f. subst (P l) (sym (row_here l e f)) (here e f))
+      (λ f. subst (P l) (sym (row_late l f)) (late f))
+      (le_or_lt l last))
+      (lt_or_le l start)
+
+  pub marked_rows : Marked before kind start (last + 1) marked
+  marked_rows = record {
+    rows = record {
+      long = omega (arith, length-append (take start before) (part ++ drop wide (drop start before)), length-append part (drop wide (drop start before)), length-drop wide (drop start before), length-drop start before, front, part_long, can.rows.long, can.forward, can.last_in);
+      wide = λ l p.
+          each (λ (l : ℕ) (r : List ℕ). length r ≡ limit.kinds) l (λ e. can.rows.wide l p) (λ e. can.rows.wide l p)
+          (λ e f. length-set (row before l) kind _ ∙ can.rows.wide l p);
     };
+    counters = λ l k p q.
+        each (λ (l : ℕ) (r : List ℕ). at r k ≡ cell before l k + bit (runs_for kind start (last + 1) k l)) l
+        (λ e. omega (arith, ap bit (for_early kind start (last + 1) k l e)))
+        (λ e. omega (arith, ap bit (for_over kind start (last + 1) k l (omega arith))))
+        (λ e f.
+        ⊎_elim
+        (λ same.
+        omega (
+          arith,
+          ap (at (one_more (row before l) kind)) same,
+          ap (at (row before l)) same,
+          get_or-set_same (row before l) kind (cell before l kind + 1) 0 (omega (arith, can.rows.wide l p, can.kind_in)),
+          ap bit (for_runs kind start (last + 1) k l (sym same) e (omega arith)),
+        ))
+        (λ n.
+        omega (
+          arith,
+          get_or-set_other (row before l) kind k (cell before l kind + 1) 0 n,
+          ap bit (for_other kind start (last + 1) k l (λ x. n (sym x))),
+        ))
+        (same_or_not k kind));
   }
-
-  module _ {step : ℕ} {tally : List (List ℕ)} (h : Marking before kind start last step tally) (more : step ≤ last) where
-    inside : step ≤ limit.steps
-    inside = omega (arith, can.last_in)
-
-    -- the counter that goes up next is no higher than the operations
-    pub marking_low : cell tally step kind < limit.operations
-    marking_low =
-        omega (
-          arith,
-          h.marked.counters step kind inside can.kind_in,
-          ap bit (for_over kind start step kind step (omega arith)),
-          can.low step inside,
-        )
-
-    -- another counter stays, and so does what it is to say
-    other : (l k : ℕ) → l ≤ limit.steps → k < limit.kinds → cell (raised tally step kind) l k ≡ cell tally l k
-        → runs_for kind start (step + 1) k l ≡ runs_for kind start step k l
-        → cell (raised tally step kind) l k ≡ cell before l k + bit (runs_for kind start (step + 1) k l)
-    other l k p q stays e = stays ∙ h.marked.counters l k p q ∙ ap (λ (b : Bool). cell before l k + bit b) (sym e)
-
-    -- this one goes up
-    this : cell (raised tally step kind) step kind ≡ cell before step kind + bit (runs_for kind start (step + 1) kind step)
-    this =
-        omega (
-          arith,
-          raised_this h.marked.rows inside can.kind_in,
-          h.marked.counters step kind inside can.kind_in,
-          ap bit (for_over kind start step kind step (omega arith)),
-          ap bit (for_runs kind start (step + 1) kind step refl (omega (arith, h.from)) (omega arith)),
-        )
-
-    pub marking_step : Marking before kind start last (step + 1) (raised tally step kind)
-    marking_step = record {
-      from = omega (arith, h.from);
-      to = omega arith;
-      marked = record {
-        rows = raised_rows h.marked.rows inside can.kind_in;
-        counters = λ l k p q.
-            ⊎_elim
-            (λ e.
-            subst (λ (l : ℕ). cell (raised tally step kind) l k ≡ cell before l k + bit (runs_for kind start (step + 1) k l)) (sym e)
-            (⊎_elim
-            (λ f. subst (λ (k : ℕ). cell (raised tally step kind) step k ≡ cell before step k + bit (runs_for kind start (step + 1) k step)) (sym f) this)
-            (λ n.
-            other step k inside q (raised_kind h.marked.rows inside can.kind_in k n)
-            (for_other kind start (step + 1) k step (λ x. n (sym x)) ∙ sym (for_other kind start step k step (λ x. n (sym x)))))
-            (same_or_not k kind)))
-            (λ n. other l k p q (raised_step h.marked.rows inside can.kind_in l k n) (for_end kind start step k l n))
-            (same_or_not l step);
-      };
-    }
-
-  pub marking_end : {step : ℕ} {tally : List (List ℕ)} → Marking before kind start last step tally → last < step → Marked before kind start (last + 1) tally
-  marking_end {step} h e = let same : step ≡ last + 1 = omega (arith, h.to) in rw same at h.marked

@@ -25,8 +25,8 @@ fn mark(tally: &mut [[u16; KINDS]; STEPS + 1], kind: usize, start: usize, last: 
     requires { Markable tally.old kind start last }
     ensures { Marked tally.old kind start (last + 1) tally.new }
 {
-    for step in start..=last {
-        tally[step][kind] += 1;
+    for row in &mut tally[start..=last] {
+        row[kind] += 1;
     }
 }
 
@@ -35,12 +35,10 @@ fn over_at(row: &[u16; KINDS], units: &[u8]) -> Option<usize>
     requires { length units.now ≤ limit.kinds }
     ensures { LowestIf (OverCell row.now units.now) (length units.now) result }
 {
-    for (kind, count) in units.iter().enumerate() {
-        if (*count as u16) < row[kind] {
-            return Some(kind);
-        }
-    }
-    None
+    units
+        .iter()
+        .zip(row)
+        .position(|(count, used)| (*count as u16) < *used)
 }
 
 // The first step from 1 to the bound, and its lowest type, whose counter is above the type's units.
@@ -86,13 +84,10 @@ fn untimely(delays: &[u8], bound: usize, starts: &[u16]) -> Option<usize>
     requires { length starts.now ≡ length delays.now }
     ensures { (busy types : List ℕ) (kinds : ℕ) (from to : List ℕ) → LowestIf (fault.Untimely (graph_of delays.now busy types kinds from to) bound starts.now) (length delays.now) result }
 {
-    for (i, delay) in delays.iter().enumerate() {
-        let start = starts[i] as usize;
-        if start == 0 || bound < start + *delay as usize - 1 {
-            return Some(i);
-        }
-    }
-    None
+    delays.iter().zip(starts).position(|(delay, start)| {
+        let start = *start as usize;
+        start == 0 || bound < start + *delay as usize - 1
+    })
 }
 
 // The lowest edge whose end starts before its beginning is over, where there is one, whatever the busy times and types are.
