@@ -1,5 +1,5 @@
 -- Edges linked by one of their ends: from the last edge with an end back to the first. A link is an edge's number counted from 1, and 0 where there is none.
-use Rattle.std.specs.Prelude.{◌≡◌, List, ℕ, ◌+◌, ◌≤◌, ◌<◌, length}
+use Rattle.std.specs.Prelude.{◌≡◌, List, ℕ, zero, suc, ◌+◌, ◌≤◌, ◌<◌, length, Option, Some, None}
 use Rattle.maths.specs.Rows.{at}
 use Rattle.model.specs.Limits as limit
 
@@ -27,3 +27,13 @@ pub record Linked (ends links : List ℕ) : Type 0 where
   pub lasts : (i : ℕ) → i < limit.operations → LastAt ends i (length ends) (of_operation links i)
   pub befores : (e : ℕ) → e < length ends → LastAt ends (at ends e) e (of_edge links e)
   pub rest : (e : ℕ) → length ends ≤ e → of_edge links e ≡ 0
+
+-- the edge that a link leads to, where there is one
+abbrev pub edge_of : ℕ → Option ℕ
+edge_of zero = None
+edge_of (suc e) = Some e
+
+-- the link that leads to it
+abbrev pub link_of : Option ℕ → ℕ
+link_of None = 0
+link_of (Some e) = e + 1

@@ -1,11 +1,11 @@
 -- A walk along the links: from the last edge with an end back to the first. What holds of each edge passed holds of all when the walk ends.
-use Rattle.std.specs.Prelude.{◌≡◌, List, ℕ, ◌+◌, ◌-◌, ◌≤◌, ◌<◌, length}
-use Rattle.std.proofs.Common.{sym, subst, ⊎_elim, arith}
+use Rattle.std.specs.Prelude.{◌≡◌, List, ℕ, zero, suc, ◌+◌, ◌-◌, ◌≤◌, ◌<◌, length, Option, Some, None}
+use Rattle.std.proofs.Common.{sym, ap, refl, subst, ◌∙◌, ⊎_elim, arith}
 use Rattle.maths.specs.Cases.{same_or_not, lt_or_le}
 use Rattle.maths.specs.Rows.{at}
 use Rattle.model.specs.Limits as limit
 use Rattle.model.specs.Order.{Order, edge_count, source, Closed}
-use Rattle.edge_links.specs.Linking.{LinkableEnds, of_operation, of_edge, LastAt, Linked}
+use Rattle.edge_links.specs.Linking.{LinkableEnds, of_operation, of_edge, LastAt, Linked, edge_of, link_of}
 
 -- P holds of the edges past the link whose end is i, and the link leads to the one to pass next
 pub record WalkedBack (ends : List ℕ) (i : ℕ) (P : ℕ → Type 0) (link : ℕ) : Type 0 where
@@ -76,3 +76,58 @@ module _ {ends : List ℕ} {i : ℕ} {P : ℕ → Type 0} {link : ℕ} (h : Walk
             (same_or_not k (link - 1)))
             (lt_or_le k (link - 1));
       }
+
+-- the edge that a link leads to has that link
+pub link_of_edge_of : (link : ℕ) → link_of (edge_of link) ≡ link
+link_of_edge_of zero = refl
+link_of_edge_of (suc e) = omega arith
+
+-- an edge of a closed order may be asked for the one before it
+pub edge_room : {o : Order} {heaviest : ℕ} → Closed heaviest o → {e : ℕ} → e < edge_count o → e < limit.edges
+edge_room c l = omega (arith, c.few_edges)
+
+-- the walk begins at the operation's last edge
+pub walk_begins : {ends links : List ℕ} {P : ℕ → Type 0} {edge : Option ℕ} → Linked ends links → (i : ℕ) → i < limit.operations
+    → edge ≡ edge_of (of_operation links i) → WalkedBack ends i P (link_of edge)
+walk_begins {ends} {links} {P} {edge} all i l first =
+    let from : of_operation links i ≡ link_of edge = sym (ap link_of first ∙ link_of_edge_of (of_operation links i)) in
+    subst (WalkedBack ends i P) from (walked_back_none all i l)
+
+module _ {ends : List ℕ} {i : ℕ} {P : ℕ → Type 0} {edge : Option ℕ} (h : WalkedBack ends i P (link_of edge)) where
+  -- where none is left, P holds of each edge with that end
+  pub walk_ends : edge ≡ None → (k : ℕ) → k < length ends → at ends k ≡ i → P k
+  walk_ends none = walked_back_end h (ap link_of none)
+
+  module _ {e : ℕ} (here : edge ≡ Some e) where
+    -- its link is counted from 1
+    counted : link_of edge ≡ e + 1
+    counted = ap link_of here
+
+    -- the edge to pass is one of the edges
+    pub walk_inside : e < length ends
+    walk_inside = omega (arith, h.within, counted)
+
+    -- and its end is i
+    pub walk_at : at ends e ≡ i
+    walk_at = h.is e (sym counted)
+
+    module _ {links : List ℕ} {next : Option ℕ} (all : Linked ends links) (before : next ≡ edge_of (of_edge links e)) where
+      -- the next one has the link of this one
+      onward : link_of next ≡ of_edge links e
+      onward = ap link_of before ∙ link_of_edge_of (of_edge links e)
+
+      -- this edge, as the laws of links name it
+      this : link_of edge - 1 ≡ e
+      this = omega (arith, counted)
+
+      -- so the walk goes back
+      pub walk_falls : link_of next < link_of edge
+      walk_falls =
+          omega (arith, onward, counted, (all.befores e walk_inside).within)
+
+      -- the edge is passed
+      pub walk_step : P e → WalkedBack ends i P (link_of next)
+      walk_step holds =
+          rw onward
+          (subst (λ (x : ℕ). WalkedBack ends i P (of_edge links x)) this
+          (walked_back_step h (λ z. absurd (omega (arith, counted))) all (subst P (sym this) holds)))

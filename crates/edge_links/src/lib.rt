@@ -1,7 +1,9 @@
 // Edges linked by one of their ends: those of one operation are found without a look at the others.
 #![tactic(auto)]
 
-ghost use Rattle.edge_links.specs.Linking.{LinkableEnds, Linked};
+ghost use Rattle.std.specs.Prelude.{◌≡◌, ◌<◌};
+ghost use Rattle.model.specs.Limits as limit;
+ghost use Rattle.edge_links.specs.Linking.{LinkableEnds, Linked, edge_of, of_operation, of_edge};
 
 use model::limits::{EDGES, OPERATIONS};
 
@@ -10,17 +12,39 @@ pub const LINKS: usize = OPERATIONS + EDGES;
 
 // The row of links: for each operation the last edge with that end, and for each edge the one before it with the same end. A link is an
 // edge's number counted from 1, and 0 where there is none.
-pub fn link(ends: &[u16]) -> [u16; LINKS]
+#[derive(Clone, Copy)]
+pub struct Links {
+    pub row: [u16; LINKS],
+}
+
+// Links the edges with these ends.
+pub fn link(ends: &[u16]) -> Links
     requires { LinkableEnds ends.now }
-    ensures { Linked ends.now result }
+    ensures { Linked ends.now result.row }
 {
-    let mut links = [0u16; LINKS];
-    let mut e = 0;
-    while e < ends.len() {
-        let end = ends[e] as usize;
-        links[OPERATIONS + e] = links[end];
-        links[end] = (e + 1) as u16;
-        e += 1;
+    let mut row = [0u16; LINKS];
+    for (e, end) in ends.iter().enumerate() {
+        let end = usize::from(*end);
+        row[OPERATIONS + e] = row[end];
+        row[end] = (e + 1) as u16;
     }
-    links
+    Links { row }
+}
+
+impl Links {
+    // The last edge whose end is i.
+    pub fn last(&self, i: usize) -> Option<usize>
+        requires { i < limit.operations }
+        ensures { result ≡ edge_of (of_operation self.now.row i) }
+    {
+        usize::from(self.row[i]).checked_sub(1)
+    }
+
+    // The last edge before e that has the same end.
+    pub fn before(&self, e: usize) -> Option<usize>
+        requires { e < limit.edges }
+        ensures { result ≡ edge_of (of_edge self.now.row e) }
+    {
+        usize::from(self.row[OPERATIONS + e]).checked_sub(1)
+    }
 }

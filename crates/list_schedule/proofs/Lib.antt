@@ -1,3 +1,2 @@
-mod Filling
 mod Going
 mod Answering

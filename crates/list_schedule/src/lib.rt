@@ -4,15 +4,18 @@
 ghost use Rattle.std.specs.Prelude.{◌≡◌, ◌+◌, ◌≤◌, length};
 ghost use Rattle.maths.specs.Cases.{Tells};
 ghost use Rattle.model.specs.Limits as limit;
-ghost use Rattle.model.specs.Graph.{lent};
+ghost use Rattle.model.specs.Lent.{graph_in, work_in};
 ghost use Rattle.model.specs.Answers.{refusal_of};
-ghost use Rattle.theory.specs.list.Progress.{Doable};
 ghost use Rattle.model.specs.Scheduling.{Moves, ListAnswer, AdvanceAnswer};
+ghost use Rattle.theory.specs.list.Progress.{Doable};
 ghost use Rattle.list_schedule.specs.WholeSchedule.{Full, ListRow};
-ghost use Rattle.list_schedule.specs.OneAnswer.{Fresh, beside};
+ghost use Rattle.list_schedule.specs.OneAnswer.{Fresh};
 
+use model::Refusal;
+use model::graph::Graph;
 use model::limits::{OPERATIONS, STEPS};
-use model::{Answer, Refusal, Scheduled};
+use model::order::Order;
+use model::work::Work;
 
 // The list schedule's state: the step, and a start for each operation, 0 for one that is not placed.
 #[derive(Clone, Copy)]
@@ -21,107 +24,68 @@ pub struct State {
     pub starts: [u16; OPERATIONS],
 }
 
-// What an advance answers, and beside it the state that it hands back.
-#[derive(Clone, Copy)]
-pub struct Advanced {
-    pub answer: Answer,
-    pub state: State,
-}
-
 // Whether the first n starts are all there.
 fn full(starts: &[u16; OPERATIONS], n: usize) -> bool
     requires { n ≤ limit.operations }
     ensures { Tells result (Full n starts.now) }
 {
-    let mut i = 0;
-    while i < n {
-        if starts[i] == 0 {
-            return false;
-        }
-        i += 1;
-    }
-    true
+    !starts[..n].contains(&0)
 }
 
 // The rule at step 1, 2, 3 and so on, from nothing placed until all are.
-fn schedule(
-    delays: &[u8],
-    types: &[u8],
-    from: &[u16],
-    to: &[u16],
-    units: &[u8],
-) -> [u16; OPERATIONS]
-    requires { Doable (lent delays.now types.now (length units.now) from.now to.now) units.now }
-    ensures { ListRow (lent delays.now types.now (length units.now) from.now to.now) units.now result }
+fn schedule(work: &Work) -> [u16; OPERATIONS]
+    requires { Doable (work_in work.now) work.now.units.now }
+    ensures { ListRow (work_in work.now) work.now.units.now result }
 {
-    let links = edge_links::link(to);
-    let ranked = list_step::priority::ranks(delays, from, to);
+    let order = Order {
+        weights: work.delays,
+        from: work.from,
+        to: work.to,
+    };
+    let links = edge_links::link(work.to);
+    let ranked = list_step::priority::ranks(&order);
     let mut starts = [0u16; OPERATIONS];
     let mut step = 1;
-    loop {
-        if full(&starts, delays.len()) {
-            return starts;
-        }
-        list_step::apply(
-            delays,
-            delays,
-            types,
-            from,
-            to,
-            units,
-            &links,
-            &ranked,
-            step,
-            &mut starts,
-        );
+    while !full(&starts, work.delays.len()) {
+        list_step::apply(work, &links, &ranked, step, &mut starts);
         step += 1;
     }
+    starts
 }
 
 // The starts after the rule at one step.
-fn next_starts(
-    delays: &[u8],
-    types: &[u8],
-    from: &[u16],
-    to: &[u16],
-    units: &[u8],
-    step: usize,
-    starts: [u16; OPERATIONS],
-) -> [u16; OPERATIONS]
-    requires doable { Doable (lent delays.now types.now (length units.now) from.now to.now) units.now }
+fn next_starts(work: &Work, step: usize, starts: [u16; OPERATIONS]) -> [u16; OPERATIONS]
+    requires doable { Doable (work_in work.now) work.now.units.now }
     requires le_step { (1 ≤ step) × (step ≤ limit.steps) }
-    ensures { Moves (lent delays.now types.now (length units.now) from.now to.now) units.now starts step result (step + 1) }
+    ensures { Moves (work_in work.now) work.now.units.now starts step result (step + 1) }
 {
-    let links = edge_links::link(to);
-    let ranked = list_step::priority::ranks(delays, from, to);
+    let order = Order {
+        weights: work.delays,
+        from: work.from,
+        to: work.to,
+    };
+    let links = edge_links::link(work.to);
+    let ranked = list_step::priority::ranks(&order);
     let mut next = starts;
-    list_step::apply(
-        delays, delays, types, from, to, units, &links, &ranked, step, &mut next,
-    );
+    list_step::apply(work, &links, &ranked, step, &mut next);
     next
 }
 
 // The list schedule's starts in the first entries of `out`, and their latency.
-pub fn list_schedule(
-    delays: &[u8],
-    types: &[u8],
-    kinds: usize,
-    from: &[u16],
-    to: &[u16],
-    units: &[u8],
-    out: &mut [u16],
-) -> Scheduled
-    ensures { ListAnswer (lent delays.now types.now kinds from.now to.now) units.now out.old result out.new }
+pub fn list_schedule(graph: &Graph, units: &[u8], out: &mut [u16]) -> Result<usize, Refusal>
+    ensures { ListAnswer (graph_in graph.now) units.now out.old result out.new }
 {
-    let matched = units.len() == kinds;
-    let begun = admission::placed_with_units(delays, types, kinds, from, to, units, matched, out);
-    let answer = begun.answer;
-    if let Answer::Refused(why) = answer {
-        return Scheduled::Refused(why);
-    }
-    let row = schedule(delays, types, from, to, units);
-    admission::rows::fill(&row, delays.len(), out);
-    Scheduled::Latency(latency::latency(delays, &row))
+    admission::placed_with_units(graph, units, units.len() == graph.kinds, out)?;
+    let row = schedule(&Work {
+        delays: graph.delays,
+        busy: graph.delays,
+        types: graph.types,
+        units,
+        from: graph.from,
+        to: graph.to,
+    });
+    admission::rows::fill(&row, graph.delays.len(), out);
+    Ok(latency::latency(graph.delays, &row))
 }
 
 impl State {
@@ -135,51 +99,27 @@ impl State {
         }
     }
 
-    // The same state, beside an answer.
-    fn unmoved(self, answer: Answer) -> Advanced
-        ensures { result ≡ beside self answer }
+    // The rule at the state's step, after which the state is one step further on. Where all are placed, or where it is refused, it stays.
+    pub fn advance(&mut self, graph: &Graph, units: &[u8]) -> Result<(), Refusal>
+        ensures { AdvanceAnswer (graph_in graph.now) units.now self.old.starts self.old.step (refusal_of result) self.new.starts self.new.step }
     {
-        Advanced {
-            answer,
-            state: self,
+        admission::graph_with_units(graph, units, units.len() == graph.kinds)?;
+        if full(&self.starts, graph.delays.len()) {
+            return Ok(());
         }
-    }
-
-    // The rule at the state's step, and the state one step further on. Where all are placed, or where it is refused, the same state.
-    pub fn advance(
-        self,
-        delays: &[u8],
-        types: &[u8],
-        kinds: usize,
-        from: &[u16],
-        to: &[u16],
-        units: &[u8],
-    ) -> Advanced
-        ensures { AdvanceAnswer (lent delays.now types.now kinds from.now to.now) units.now self.starts self.step (refusal_of result.answer) result.state.starts result.state.step }
-    {
-        let matched = units.len() == kinds;
-        let fault = admission::graph_with_units(delays, types, kinds, from, to, units, matched);
-        if let Answer::Refused(why) = fault {
-            return self.unmoved(Answer::Refused(why));
+        if !(1..=STEPS).contains(&self.step) {
+            return Err(Refusal::Step);
         }
-        let step = self.step;
-        let starts = self.starts;
-        if full(&starts, delays.len()) {
-            return self.unmoved(Answer::Done);
-        }
-        if step < 1 {
-            return self.unmoved(Answer::Refused(Refusal::Step));
-        }
-        if STEPS < step {
-            return self.unmoved(Answer::Refused(Refusal::Step));
-        }
-        let next = next_starts(delays, types, from, to, units, step, starts);
-        Advanced {
-            answer: Answer::Done,
-            state: State {
-                step: step + 1,
-                starts: next,
-            },
-        }
+        let work = Work {
+            delays: graph.delays,
+            busy: graph.delays,
+            types: graph.types,
+            units,
+            from: graph.from,
+            to: graph.to,
+        };
+        self.starts = next_starts(&work, self.step, self.starts);
+        self.step += 1;
+        Ok(())
     }
 }

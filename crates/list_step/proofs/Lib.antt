@@ -1,5 +1,4 @@
 mod CountingByValue
-mod Rooms
 mod Ranking
 mod Labelled
 mod Passing

@@ -1,31 +1,26 @@
 -- The pass in the order of priority: at its turn a candidate finds a unit left exactly when the rule starts it, by counting those that started before it.
-use mathlib.Core.Path.{◌≡◌, refl, sym, ap, subst, ◌∙◌}
-use mathlib.Core.Logic.{◌⊎◌, inl, inr, ⊎_elim}
-use mathlib.Core.Bool.{Bool, false}
-use mathlib.Core.List.{List}
-use Prim.Native.Nat.{ℕ, ◌+◌, ◌-◌, ◌≤◌, ◌<◌, min}
-use native.Mathlib.Omega.{arith}
-use lib.Dec.{eqb, ltb}
-use lib.ListN.{length, set, length-set}
-use lib.Seq.{get_or-set_same, get_or-set_other}
-use borrow.Author.Tests.{ne_eqb, lt-ltb, le-ltb, ltb-true}
+use Rattle.std.specs.Prelude.{◌≡◌, refl, ◌⊎◌, Bool, true, false, List, ℕ, ◌+◌, ◌-◌, ◌≤◌, ◌<◌, min, eqb, ltb, length, set}
+use Rattle.std.proofs.Common.{sym, ap, subst, ◌∙◌, inl, inr, ⊎_elim, length-set, get_or-set_same, get_or-set_other, ne_eqb, lt-ltb, le-ltb, ltb-true, arith}
 use Rattle.maths.specs.Cases.{same_or_not, lt_or_le}
 use Rattle.maths.specs.Tests.{◌and◌, two, same_test, and_true, and_left, and_right, and_left_false, and_right_false}
 use Rattle.maths.specs.Rows.{at, same_row}
-use Rattle.maths.specs.Count.{bit, bit_le, count, count_le}
+use Rattle.maths.specs.Count.{bit, count, count_le}
 use Rattle.maths.specs.Counting.{sum_change_below, count_same, count_zero}
 use Rattle.model.specs.Limits as limit
 use Rattle.model.specs.Order.{source}
 use Rattle.model.specs.Graph.{Graph, Sound, BusySound, order, many, type_of}
 use Rattle.model.specs.Use.{runs}
-use Rattle.model.specs.Rule.{Finished, candidate, in_use, ahead, candidates_ahead, starts_now, pick_start, stepped}
+use Rattle.model.specs.Rule.{Finished, candidate, in_use, ahead, candidates_ahead, starts_now, stepped}
 use Rattle.theory.specs.list.OneStep.{uses, candidate_is, is_candidate, ahead_linear, starts_is, is_starts, starts_unplaced, stepped_long, starts_at, stays_at, rest_stays, typed, Front, front_filled, starter, is_starter}
 use Rattle.model.specs.Scheduling.{Moves}
 use Rattle.list_step.specs.CountsByValue.{CountsByValue}
 use Rattle.list_step.specs.Turn.{uses_at}
-use Rattle.list_step.specs.Candidates.{takes_at}
 use Rattle.list_step.specs.Priority.{rank_of, Priority}
 use Rattle.list_step.specs.RankLaws.{TurnOf, turn, lower, before, one_rank, rank_inside}
+
+-- i is a candidate, and of its type's units not all are used
+abbrev pub takes_at : Graph → List ℕ → ℕ → ℕ → ℕ → ℕ → Bool
+takes_at g t l i used units = candidate g t l i and ltb used units
 
 -- what in_use tells of the starts t before the pass
 pub used_counts : (g : Graph) (t : List ℕ) (l : ℕ) (used : List ℕ) → CountsByValue (at g.types) (uses_at g.busy t l) limit.kinds used (many g)
@@ -193,19 +188,6 @@ module _ {g : Graph} {units row t : List ℕ} {l : ℕ} {used x : List ℕ} {p :
         count_le (passed g h.priority.labels units t l k p) (many g),
       )
 
-  pub used_fits : (now : ℕ) → p < many g
-      → now ≡ bit (takes_at g x l (at row p) (at used (type_of g (at row p))) (at units (type_of g (at row p))))
-      → at used (type_of g (at row p)) + now ≤ limit.operations + limit.operations + 1
-  used_fits now u e =
-      let i = at row p in
-      let k = type_of g i in
-      omega (
-        arith,
-        used_room k (kind_room u),
-        bit_le (takes_at g x l i (at used k) (at units k)),
-        h.sound.few,
-      )
-
   -- an operation's start so far is the old one, or it started now
   so_far : (j : ℕ) → j < many g → (at x j ≡ at t j) ⊎ ((at x j ≡ l) × (at t j ≡ 0))
   so_far j b =
@@ -257,90 +239,95 @@ module _ {g : Graph} {units row t : List ℕ} {l : ℕ} {used x : List ℕ} {p :
         ready = λ e m n. (over_same (source (order g) e) (h.sound.source_in e m)).1 (c.ready e m n);
       }))
 
-  -- the turn's mark says whether the rule starts it
-  mark : (now : ℕ) → p < many g → now ≡ bit (takes_at g x l (at row p) (at used (type_of g (at row p))) (at units (type_of g (at row p))))
-      → now ≡ bit (starts_now g h.priority.labels units t l (at row p))
-  mark now u e =
-      let labels = h.priority.labels in
-      let i = at row p in
-      let here = turn_of u in
-      let k = type_of g i in
-      e
-      ∙ ap (λ (c : Bool). bit (c and ltb (at used k) (at units k))) (candidate_same i here.inside (h.todo i here.inside (omega (arith, here.is))))
-      ∙ ap bit (takes_starts g labels units t l p i here (at used k) (h.counts k (kind_room u)))
+  -- of the operation whose turn it is: its label's rank is p, and it has its old start still
+  module _ (u : p < many g) where
+    abbrev labels : List ℕ
+    labels = h.priority.labels
 
-  -- and its new start is what the step leaves
-  settled : (now v : ℕ) → p < many g → now ≡ bit (starts_now g h.priority.labels units t l (at row p))
-      → v ≡ pick_start (ltb 0 now) l (at x (at row p)) → v ≡ at (stepped g h.priority.labels units t l) (at row p)
-  settled now v u e q =
-      let labels = h.priority.labels in
-      let i = at row p in
-      let here = turn_of u in
-      ⊎_elim
-      (λ yes.
-      let one : now ≡ 1 = e ∙ ap bit yes in
-      q
-      ∙ ap (λ (b : Bool). pick_start b l (at x i)) (lt-ltb 0 now (omega arith))
-      ∙ sym (starts_at g labels units t l i (omega (arith, operation_room u, h.whole)) yes))
-      (λ no.
-      let none : now ≡ 0 = e ∙ ap bit no in
-      q
-      ∙ ap (λ (b : Bool). pick_start b l (at x i)) (le-ltb 0 now (omega arith))
-      ∙ h.todo i here.inside (omega (arith, here.is))
-      ∙ sym (stays_at g labels units t l i no))
-      (two (starts_now g labels units t l i))
+    abbrev now : ℕ
+    now = at row p
 
-  pub passing_step : (now v : ℕ) → p < many g
-      → now ≡ bit (takes_at g x l (at row p) (at used (type_of g (at row p))) (at units (type_of g (at row p))))
-      → v ≡ pick_start (ltb 0 now) l (at x (at row p))
-      → Passing g units row t l (set used (type_of g (at row p)) (at used (type_of g (at row p)) + now)) (set x (at row p) v) (p + 1)
-  passing_step now v u e q =
-      let labels = h.priority.labels in
-      let n = many g in
-      let i = at row p in
-      let k = type_of g i in
-      let here = turn_of u in
-      let starts = mark now u e in
-      let value = settled now v u starts q in
-      let inside : i < length x = omega (arith, operation_room u, h.long) in
-      let rank = rank_of labels n in
-      record {
-        sound = h.sound;
-        whole = h.whole;
-        priority = h.priority;
-        within = omega arith;
-        long = length-set x i v ∙ h.long;
-        long_used = length-set used k (at used k + now) ∙ h.long_used;
-        done = λ j b r.
-            ⊎_elim
-            (λ same. ap (at (set x i v)) same ∙ get_or-set_same x i v 0 inside ∙ value ∙ ap (at (stepped g labels units t l)) (sym same))
-            (λ apart.
-            let not : rank j ≡ p → ⊥ = λ z. apart (one_rank labels n j i b here.inside (z ∙ sym here.is)) in
-            get_or-set_other x i j v 0 apart ∙ h.done j b (omega arith))
-            (same_or_not j i);
-        todo = λ j b r. get_or-set_other x i j v 0 (λ same. omega (arith, ap rank same, here.is)) ∙ h.todo j b (omega arith);
-        rest = λ j b. get_or-set_other x i j v 0 (λ same. omega (arith, here.inside)) ∙ h.rest j b;
-        counts = λ m b.
-            let more = passed_more g labels units t l p i here m in
-            let before = h.counts m b in
-            ⊎_elim
-            (λ same.
-            let joins : starter g labels units t l m i ≡ starts_now g labels units t l i =
-            subst (λ (m : ℕ). starter g labels units t l m i ≡ starts_now g labels units t l i) same
-            (same_test _ _ (λ r. and_right _ _ r) (λ r. is_starter g labels units t l i r)) in
-            omega (
-              arith,
-              ap (at (set used k (at used k + now))) same,
-              ap (at used) same,
-              get_or-set_same used k (at used k + now) 0 (omega (arith, h.long_used)),
-              ap bit joins,
-            ))
-            (λ apart.
-            let joins : starter g labels units t l m i ≡ false =
-            and_left_false (starts_now g labels units t l i) (and_right_false (candidate g t l i) (ne_eqb k m apart)) in
-            omega (arith, get_or-set_other used k m (at used k + now) 0 (λ z. apart (sym z)), ap bit joins))
-            (same_or_not k m);
-      }
+    abbrev kind : ℕ
+    kind = type_of g now
+
+    -- it takes a unit exactly when the rule starts it
+    pub takes_now : takes_at g x l now (at used kind) (at units kind) ≡ starts_now g labels units t l now
+    takes_now =
+        let here = turn_of u in
+        ap (λ (c : Bool). c and ltb (at used kind) (at units kind)) (candidate_same now here.inside (h.todo now here.inside (omega (arith, here.is))))
+        ∙ takes_starts g labels units t l p now here (at used kind) (h.counts kind (kind_room u))
+
+    -- the turn is over: its start is what the step leaves, and its type's counter has what started
+    turned : (used' x' : List ℕ) → length used' ≡ limit.kinds → length x' ≡ limit.operations → at x' now ≡ at (stepped g labels units t l) now
+        → ((j : ℕ) → (j ≡ now → ⊥) → at x' j ≡ at x j)
+        → ((k : ℕ) → k < limit.kinds → at used' k ≡ at used k + bit (starter g labels units t l k now))
+        → Passing g units row t l used' x' (p + 1)
+    turned used' x' long_used long is others more =
+        let n = many g in
+        let here = turn_of u in
+        let rank = rank_of labels n in
+        record {
+          sound = h.sound;
+          whole = h.whole;
+          priority = h.priority;
+          within = omega arith;
+          long = long;
+          long_used = long_used;
+          done = λ j b r.
+              ⊎_elim
+              (λ same. ap (at x') same ∙ is ∙ ap (at (stepped g labels units t l)) (sym same))
+              (λ apart.
+              let not : rank j ≡ p → ⊥ = λ z. apart (one_rank labels n j now b here.inside (z ∙ sym here.is)) in
+              others j apart ∙ h.done j b (omega arith))
+              (same_or_not j now);
+          todo = λ j b r. others j (λ same. omega (arith, ap rank same, here.is)) ∙ h.todo j b (omega arith);
+          rest = λ j b. others j (λ same. omega (arith, here.inside)) ∙ h.rest j b;
+          counts = λ k b. omega (arith, more k b, h.counts k b, passed_more g labels units t l p now here k);
+        }
+
+    -- it starts: a candidate, and a unit of its type is left
+    pub turn_starts : {new : ℕ} → new ≡ l → candidate g x l now ≡ true → at used kind < at units kind
+        → Passing g units row t l (set used kind (at used kind + 1)) (set x now new) (p + 1)
+    turn_starts {new} is may room =
+        let yes : starts_now g labels units t l now ≡ true = sym takes_now ∙ and_true may (lt-ltb (at used kind) (at units kind) room) in
+        let v = at used kind + 1 in
+        let inside : now < length x = omega (arith, operation_room u, h.long) in
+        turned (set used kind v) (set x now new) (length-set used kind v ∙ h.long_used) (length-set x now new ∙ h.long)
+        (get_or-set_same x now new 0 inside ∙ is ∙ sym (starts_at g labels units t l now (omega (arith, operation_room u, h.whole)) yes))
+        (λ j apart. get_or-set_other x now j new 0 apart)
+        (λ k b.
+        ⊎_elim
+        (λ same.
+        omega (
+          arith,
+          ap (at (set used kind v)) same,
+          ap (at used) same,
+          get_or-set_same used kind v 0 (omega (arith, h.long_used)),
+          ap bit (subst (λ (m : ℕ). starter g labels units t l m now ≡ true) same (is_starter g labels units t l now yes)),
+        ))
+        (λ apart.
+        let joins : starter g labels units t l k now ≡ false =
+        and_left_false (starts_now g labels units t l now) (and_right_false (candidate g t l now) (ne_eqb kind k apart)) in
+        omega (arith, get_or-set_other used kind k v 0 (λ z. apart (sym z)), ap bit joins))
+        (same_or_not kind k))
+
+    -- it stays: no candidate, or no unit of its type is left
+    turn_stays : takes_at g x l now (at used kind) (at units kind) ≡ false → Passing g units row t l used x (p + 1)
+    turn_stays not =
+        let here = turn_of u in
+        let no_start : starts_now g labels units t l now ≡ false = sym takes_now ∙ not in
+        turned used x h.long_used h.long
+        (h.todo now here.inside (omega (arith, here.is)) ∙ sym (stays_at g labels units t l now no_start))
+        (λ j apart. refl)
+        (λ k b.
+        let joins : starter g labels units t l k now ≡ false = and_right_false (typed g t l k now) no_start in
+        omega (arith, ap bit joins))
+
+    pub turn_barred : candidate g x l now ≡ false → Passing g units row t l used x (p + 1)
+    turn_barred e = turn_stays (and_left_false (ltb (at used kind) (at units kind)) e)
+
+    pub turn_full : at units kind ≤ at used kind → Passing g units row t l used x (p + 1)
+    turn_full e = turn_stays (and_right_false (candidate g x l now) (le-ltb (at used kind) (at units kind) e))
 
   -- after the last turn the starts are those of the step
   pub passing_end : many g ≤ p → Moves g units t l x (l + 1)

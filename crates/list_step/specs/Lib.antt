@@ -1,6 +1,5 @@
 pub mod CountsByValue
 pub mod Turn
-pub mod Candidates
 pub mod Priority
 pub mod RankLaws
 pub mod OneAnswer

@@ -3,101 +3,71 @@
 
 ghost use Rattle.std.specs.Prelude.{◌≤◌};
 ghost use Rattle.model.specs.Limits as limit;
-ghost use Rattle.model.specs.Order.{ordered, Closed};
-ghost use Rattle.model.specs.Graph.{lent};
+ghost use Rattle.model.specs.Lent.{graph_in, order_in};
 ghost use Rattle.model.specs.Answers.{AsapAnswer, AlapAnswer, MobilityAnswer};
 ghost use Rattle.tables.specs.LatestRow.{RoomWithin, LatestRow};
 
-use model::Answer;
+use model::Refusal;
+use model::graph::Graph;
 use model::limits::OPERATIONS;
+use model::order::Order;
 
 // The latest starts within a bound that leaves room for some: the earliest of the order turned round, read from the bound backwards.
-pub fn latest(delays: &[u8], from: &[u16], to: &[u16], bound: usize) -> [u16; OPERATIONS]
-    requires closed { Closed limit.longest (ordered delays.now from.now to.now) }
+pub fn latest(order: &Order, bound: usize) -> [u16; OPERATIONS]
     requires bound_le_steps { bound ≤ limit.steps }
-    requires room_within { RoomWithin (ordered delays.now from.now to.now) bound }
-    ensures { LatestRow (ordered delays.now from.now to.now) bound result }
+    requires room_within { RoomWithin (order_in order.now) bound }
+    ensures { LatestRow (order_in order.now) bound result }
 {
-    let mut turned = [0u16; OPERATIONS];
-    earliest::by_delays(delays, to, from, &mut turned);
+    let turned = Order {
+        weights: order.weights,
+        from: order.to,
+        to: order.from,
+    };
+    let mut back = [0u16; OPERATIONS];
+    earliest::by_delays(&turned, &mut back);
     let mut starts = [0u16; OPERATIONS];
-    let mut i = 0;
-    while i < delays.len() {
-        starts[i] = (bound + 2 - delays[i] as usize - turned[i] as usize) as u16;
-        i += 1;
+    for (i, delay) in order.weights.iter().enumerate() {
+        starts[i] = (bound + 2 - *delay as usize - back[i] as usize) as u16;
     }
     starts
 }
 
 // The ASAP starts.
-pub fn asap(
-    delays: &[u8],
-    types: &[u8],
-    kinds: usize,
-    from: &[u16],
-    to: &[u16],
-    out: &mut [u16],
-) -> Answer
-    ensures { AsapAnswer (lent delays.now types.now kinds from.now to.now) out.old result out.new }
+pub fn asap(graph: &Graph, out: &mut [u16]) -> Result<(), Refusal>
+    ensures { AsapAnswer (graph_in graph.now) out.old result out.new }
 {
-    let begun = admission::placed(delays, types, kinds, from, to, true, out);
-    let starts = begun.starts;
-    let answer = begun.answer;
-    match answer {
-        Answer::Refused(why) => Answer::Refused(why),
-        Answer::Done => {
-            admission::rows::fill(&starts, delays.len(), out);
-            Answer::Done
-        }
-    }
+    let starts = admission::placed(graph, true, out)?;
+    admission::rows::fill(&starts, graph.delays.len(), out);
+    Ok(())
 }
 
 // The ALAP starts within a bound.
-pub fn alap(
-    delays: &[u8],
-    types: &[u8],
-    kinds: usize,
-    from: &[u16],
-    to: &[u16],
-    bound: usize,
-    out: &mut [u16],
-) -> Answer
-    ensures { AlapAnswer (lent delays.now types.now kinds from.now to.now) bound out.old result out.new }
+pub fn alap(graph: &Graph, bound: usize, out: &mut [u16]) -> Result<(), Refusal>
+    ensures { AlapAnswer (graph_in graph.now) bound out.old result out.new }
 {
-    let begun = admission::placed_within(delays, types, kinds, from, to, true, bound, out);
-    let answer = begun.answer;
-    match answer {
-        Answer::Refused(why) => Answer::Refused(why),
-        Answer::Done => {
-            let late = latest(delays, from, to, bound);
-            admission::rows::fill(&late, delays.len(), out);
-            Answer::Done
-        }
-    }
+    admission::placed_within(graph, true, bound, out)?;
+    let order = Order {
+        weights: graph.delays,
+        from: graph.from,
+        to: graph.to,
+    };
+    let late = latest(&order, bound);
+    admission::rows::fill(&late, graph.delays.len(), out);
+    Ok(())
 }
 
 // The mobility within a bound: ALAP less ASAP.
-pub fn mobility(
-    delays: &[u8],
-    types: &[u8],
-    kinds: usize,
-    from: &[u16],
-    to: &[u16],
-    bound: usize,
-    out: &mut [u16],
-) -> Answer
-    ensures { MobilityAnswer (lent delays.now types.now kinds from.now to.now) bound out.old result out.new }
+pub fn mobility(graph: &Graph, bound: usize, out: &mut [u16]) -> Result<(), Refusal>
+    ensures { MobilityAnswer (graph_in graph.now) bound out.old result out.new }
 {
-    let begun = admission::placed_within(delays, types, kinds, from, to, true, bound, out);
-    let starts = begun.starts;
-    let answer = begun.answer;
-    match answer {
-        Answer::Refused(why) => Answer::Refused(why),
-        Answer::Done => {
-            let late = latest(delays, from, to, bound);
-            let spread = latency::differences(&late, &starts, delays.len());
-            admission::rows::fill(&spread, delays.len(), out);
-            Answer::Done
-        }
-    }
+    let starts = admission::placed_within(graph, true, bound, out)?;
+    let order = Order {
+        weights: graph.delays,
+        from: graph.from,
+        to: graph.to,
+    };
+    let late = latest(&order, bound);
+    let spread = latency::differences(&late, &starts, graph.delays.len());
+    admission::rows::fill(&spread, graph.delays.len(), out);
+    Ok(())
 }

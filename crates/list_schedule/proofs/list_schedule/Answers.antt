@@ -1,34 +1,26 @@
 -- Each way out is an outcome that the contract allows, by what admission and the schedule left.
-use Rattle.std.proofs.Common.{sym, arith, eqb-true}
-use Rattle.list_schedule.proofs.Answering.{list_refused, list_can, list_fits, list_given}
+use Rattle.std.proofs.lemmas.Result.{err_from_is_err_and}
+use Rattle.theory.specs.unit_use.BusyTimes.{busy_lent}
+use Rattle.list_schedule.proofs.Answering.{list_refused, list_can, list_room, list_given}
 use Rattle.list_schedule.proofs.list_schedule.Goals as goal
 
-pub placed_with_units-begun-requires : goal.placed_with_units-begun-requires
-placed_with_units-begun-requires c = eqb-true _ _
+pub returns-in_err-placed_with_units : goal.returns-in_err-placed_with_units
+returns-in_err-placed_with_units c =
+    let given = err_from_is_err_and c.from_residual.result c.from_residual.ensures.1 in
+    rw (given.1, given.2) (list_refused c.args.graph.now c.args.units.now c.in_err-placed_with_units.ensures)
 
-pub returns-in-Refused : goal.returns-in-Refused
-returns-in-Refused c =
-    let a = c.args in
-    list_refused a.delays.now a.types.now a.kinds a.from.now a.to.now a.units.now c.placed_with_units-begun.ensures _ c.in-Refused.is
+pub invariant_of-schedule : goal.invariant_of-schedule
+invariant_of-schedule c =
+    let sound = (list_can c.args.graph.now c.args.units.now c.in_ok-placed_with_units.ensures).sound in
+    record { sound = sound; busy_sound = busy_lent sound }
 
 pub schedule-row-requires : goal.schedule-row-requires
-schedule-row-requires c =
-    let a = c.args in
-    list_can a.delays.now a.types.now a.kinds a.from.now a.to.now a.units.now c.placed_with_units-begun.ensures c.in_default.is
+schedule-row-requires c = list_can c.args.graph.now c.args.units.now c.in_ok-placed_with_units.ensures
 
-pub fill-requires : goal.fill-requires
-fill-requires c =
-    let a = c.args in let asked = list_fits a.delays.now a.types.now a.kinds a.from.now a.to.now a.units.now c.placed_with_units-begun.ensures c.in_default.is in record { n_le_operations = asked.0; n_in_bounds = asked.1 }
-
-pub slice_bounds-latency-end : goal.slice_bounds-latency-end
-slice_bounds-latency-end c = sym c.schedule-row.ensures.long
-
-pub latency-requires : goal.latency-requires
-latency-requires c =
-    let a = c.args in
-    omega (arith, c.schedule-row.ensures.long, (list_fits a.delays.now a.types.now a.kinds a.from.now a.to.now a.units.now c.placed_with_units-begun.ensures c.in_default.is).0)
+pub fill-requires-clause-n_in_bounds : goal.fill-requires-clause-n_in_bounds
+fill-requires-clause-n_in_bounds c = list_room c.args.graph.now c.args.units.now c.in_ok-placed_with_units.ensures
 
 pub returns : goal.returns
 returns c =
-    let a = c.args in
-    list_given a.delays.now a.types.now a.kinds a.from.now a.to.now a.units.now c.placed_with_units-begun.ensures c.in_default.is c.schedule-row.ensures (c.latency.ensures _ _) c.fill.ensures
+    let g = c.args.graph.now in
+    list_given g c.args.units.now c.in_ok-placed_with_units.ensures c.schedule-row.ensures (c.latency.ensures g.from.now g.to.now) c.fill.ensures

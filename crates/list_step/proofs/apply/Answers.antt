@@ -1,105 +1,57 @@
--- The loop keeps `Passing`: operations of a lower rank have had their turn. What is left of the ranks falls.
-use Rattle.std.proofs.Common.{arith}
-use Rattle.maths.specs.Rows.{at}
-use Rattle.theory.specs.refusals.SoundGraph.{closed}
-use Rattle.list_step.proofs.Rooms.{typed_busy}
-use Rattle.list_step.proofs.Passing.{passing_none, turn_of, operation_room, kind_room, used_fits, passing_step, passing_end}
+-- The loop keeps `Passing`: operations of a lower rank have had their turn.
+use Rattle.std.proofs.Common.{◌<◌, length, refl, arith, sym, ◌∙◌}
+use Rattle.list_step.proofs.Passing.{passing_none, turn_of, turn_starts, turn_barred, turn_full, passing_end}
 use Rattle.list_step.proofs.apply.Goals as goal
+use Rattle.list_step.proofs.apply.Goals.{then-left+then-is_candidate, else-left, else-left-via-then-left+else-is_candidate, else-left-via-else-left}
 
-pub in_use-used-requires : goal.in_use-used-requires
-in_use-used-requires c = let pre = c.requires in typed_busy pre.sound pre.busy_sound
+pub loop-turn-init : goal.loop-turn-init
+loop-turn-init c =
+    let w = c.args.work.now in
+    passing_none w.sound w.busy_sound c.requires.starts_len c.requires.priority c.in_use-used.ensures
 
-pub loop-p-init : goal.loop-p-init
-loop-p-init c =
-    let pre = c.requires in
-    passing_none pre.sound pre.busy_sound pre.starts_len pre.priority c.in_use-used.ensures
+pub bounds-work-i : goal.bounds-work-i
+bounds-work-i c =
+    let h = c.loop-turn.invariant in
+    omega (arith, c.from-i.ensures, (turn_of h (omega (arith, h.sound.even_types))).inside, h.sound.even_types)
 
-pub offset_bounds-ranked-p : goal.offset_bounds-ranked-p
-offset_bounds-ranked-p c = omega (arith, c.requires.sound.even_types, c.requires.sound.few)
+pub bounds-work-kind : goal.bounds-work-kind
+bounds-work-kind c =
+    let h = c.loop-turn.invariant in
+    let here = turn_of h (omega (arith, h.sound.even_types)) in
+    rw (c.from-kind.ensures, c.from-i.ensures) (h.sound.type_in _ here.inside)
 
-pub bounds-ranked-p : goal.bounds-ranked-p
-bounds-ranked-p c = omega (arith, c.requires.sound.even_types, c.requires.sound.few)
-
-pub overflow_cast-i : goal.overflow_cast-i
-overflow_cast-i c =
-    let h = c.loop-p.invariant in
-    omega (arith, operation_room h (omega (arith, h.sound.even_types)))
-
-pub bounds-types-i : goal.bounds-types-i
-bounds-types-i c =
-    let h = c.loop-p.invariant in
-    omega (arith, h.sound.even_types, (turn_of h (omega (arith, h.sound.even_types))).inside)
-
-pub overflow_cast-kind : goal.overflow_cast-kind
-overflow_cast-kind c = omega (arith, c.type_inv.types (at c.args.ranked.now c.loop-p.p))
-
-pub offset_bounds-used-kind : goal.offset_bounds-used-kind
-offset_bounds-used-kind c =
-    let h = c.loop-p.invariant in
-    omega (arith, kind_room h (omega (arith, h.sound.even_types)))
-
-pub bounds-used-kind : goal.bounds-used-kind
-bounds-used-kind c =
-    let h = c.loop-p.invariant in
-    omega (arith, kind_room h (omega (arith, h.sound.even_types)))
-
-pub bounds-units-kind : goal.bounds-units-kind
-bounds-units-kind c =
-    let h = c.loop-p.invariant in
-    h.sound.type_in _ (turn_of h (omega (arith, h.sound.even_types))).inside
-
-pub takes-now-requires : goal.takes-now-requires
-takes-now-requires c =
-    let h = c.loop-p.invariant in
-    let pre = c.requires in
-    record { walkable = record { closed = closed _ pre.sound; linked = pre.linked }; i_in_bounds = (turn_of h (omega (arith, h.sound.even_types))).inside }
-
-pub offset_bounds-used-kind-in-loop-p : goal.offset_bounds-used-kind-in-loop-p
-offset_bounds-used-kind-in-loop-p c =
-    let h = c.loop-p.invariant in
-    omega (arith, kind_room h (omega (arith, h.sound.even_types)))
-
-pub bounds-used-kind-in-loop-p : goal.bounds-used-kind-in-loop-p
-bounds-used-kind-in-loop-p c =
-    let h = c.loop-p.invariant in
-    omega (arith, kind_room h (omega (arith, h.sound.even_types)))
-
-pub overflow_add-used : goal.overflow_add-used
-overflow_add-used c =
-    let h = c.loop-p.invariant in
-    omega (arith, used_fits h _ (omega (arith, h.sound.even_types)) (c.takes-now.ensures _ _ _))
-
-pub bounds-used-kind-in-loop-p-2 : goal.bounds-used-kind-in-loop-p-2
-bounds-used-kind-in-loop-p-2 c =
-    let h = c.loop-p.invariant in
-    omega (arith, kind_room h (omega (arith, h.sound.even_types)))
-
-pub offset_bounds-starts-i : goal.offset_bounds-starts-i
-offset_bounds-starts-i c =
-    let h = c.loop-p.invariant in
-    omega (arith, operation_room h (omega (arith, h.sound.even_types)))
+pub is_candidate-requires-clause-i_in_bounds : goal.is_candidate-requires-clause-i_in_bounds
+is_candidate-requires-clause-i_in_bounds c =
+    let h = c.loop-turn.invariant in
+    omega (arith, c.from-i.ensures, (turn_of h (omega (arith, h.sound.even_types))).inside)
 
 pub bounds-starts-i : goal.bounds-starts-i
 bounds-starts-i c =
-    let h = c.loop-p.invariant in
-    omega (arith, operation_room h (omega (arith, h.sound.even_types)))
+    let h = c.loop-turn.invariant in
+    omega (arith, c.from-i.ensures, (turn_of h (omega (arith, h.sound.even_types))).inside, h.sound.few)
 
-pub offset_bounds-starts-i-in-loop-p : goal.offset_bounds-starts-i-in-loop-p
-offset_bounds-starts-i-in-loop-p c =
-    let h = c.loop-p.invariant in
-    omega (arith, operation_room h (omega (arith, h.sound.even_types)))
-
-pub bounds-starts-i-in-loop-p : goal.bounds-starts-i-in-loop-p
-bounds-starts-i-in-loop-p c =
-    let h = c.loop-p.invariant in
-    omega (arith, operation_room h (omega (arith, h.sound.even_types)))
-
-pub loop-p-preserved : goal.loop-p-preserved
-loop-p-preserved c =
-    let h = c.loop-p.invariant in
-    passing_step h _ _ (omega (arith, h.sound.even_types)) (c.takes-now.ensures _ _ _) c.chosen.ensures
+pub loop-turn-preserved : goal.loop-turn-preserved
+loop-turn-preserved c =
+    let h = c.loop-turn.invariant in
+    let a = c.args.work.now in
+    let more : c.loop-turn.turn < length c.args.work.now.delays.now = omega (arith, h.sound.even_types) in
+    elim c.if-left.branch [
+      | then-left+then-is_candidate w ↦
+          rw (w.used-is, w.starts-is, c.from-kind.ensures, c.from-i.ensures)
+          (turn_starts h more refl
+          (rw c.from-i.ensures at (sym (w.is_candidate.ensures a.busy.now a.types.now (length a.units.now)) ∙ w.if-is_candidate.true))
+          (rw (c.from.ensures, c.from-kind.ensures, c.from-i.ensures) at w.if-left.true))
+      | else-left w ↦
+          rw (w.used-is, w.starts-is)
+          (elim w.else-left.branch [
+            | else-left-via-then-left+else-is_candidate v ↦
+                turn_barred h more (rw c.from-i.ensures at (sym (v.is_candidate.ensures a.busy.now a.types.now (length a.units.now)) ∙ v.if-is_candidate.false))
+            | else-left-via-else-left v ↦
+                turn_full h more (rw (c.from.ensures, c.from-kind.ensures, c.from-i.ensures) at v.if-left.false)
+          ])
+    ]
 
 pub returns : goal.returns
 returns c =
-    let h = c.loop-p.invariant in
+    let h = c.loop-turn.invariant in
     passing_end h (omega (arith, h.sound.even_types))

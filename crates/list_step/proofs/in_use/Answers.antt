@@ -1,37 +1,21 @@
--- The loop keeps the tally of the operations passed: one adds to its type's counter. What is left of the operations falls.
-use Rattle.std.proofs.Common.{arith, rules}
-use Rattle.list_step.proofs.CountingByValue.{by_value_none, by_value_step, tally_fits, tally_end}
+-- The loop keeps the tally of the operations passed: one that runs adds to its type's counter.
+use Rattle.std.proofs.Common.{◌<◌, arith, sym, ◌∙◌}
+use Rattle.model.specs.Limits as limit
+use Rattle.list_step.proofs.CountingByValue.{by_value_none, counter_low, by_value_more, by_value_same}
 use Rattle.list_step.proofs.in_use.Goals as goal
+use Rattle.list_step.proofs.in_use.Goals.{then-running, else-running}
 
 pub loop-i-init : goal.loop-i-init
-loop-i-init c = (search rules, by_value_none)
-
-pub bounds-types-i : goal.bounds-types-i
-bounds-types-i c = omega (arith, c.requires.long)
-
-pub overflow_cast-kind : goal.overflow_cast-kind
-overflow_cast-kind c = omega (arith, c.type_inv.types c.loop-i.i)
-
-pub offset_bounds-starts-i : goal.offset_bounds-starts-i
-offset_bounds-starts-i c = omega (arith, c.requires.few)
-
-pub bounds-starts-i : goal.bounds-starts-i
-bounds-starts-i c = omega (arith, c.requires.few)
-
-pub offset_bounds-row-kind : goal.offset_bounds-row-kind
-offset_bounds-row-kind c = omega (arith, c.requires.each c.loop-i.i (omega arith))
-
-pub bounds-row-kind : goal.bounds-row-kind
-bounds-row-kind c = c.requires.each c.loop-i.i (omega arith)
+loop-i-init c = by_value_none
 
 pub overflow_add-row : goal.overflow_add-row
-overflow_add-row c = omega (arith, c.requires.few, tally_fits c.loop-i.invariant.1 _ (c.requires.each c.loop-i.i (omega arith)) c.running.ensures)
-
-pub bounds-row-kind-in-loop-i : goal.bounds-row-kind-in-loop-i
-bounds-row-kind-in-loop-i c = c.requires.each c.loop-i.i (omega arith)
+overflow_add-row c = omega (arith, counter_low c.loop-i.invariant c.from.result (omega (arith, c.requires.each c.loop-i.i (omega arith))))
 
 pub loop-i-preserved : goal.loop-i-preserved
-loop-i-preserved c = (search rules, by_value_step c.loop-i.invariant.1 (c.requires.each c.loop-i.i (omega arith)) c.running.ensures)
-
-pub returns : goal.returns
-returns c = tally_end c.loop-i.invariant.1 (omega arith)
+loop-i-preserved c =
+    elim c.if-running.branch [
+      | then-running w ↦
+          let inside : w.from.result < limit.kinds = omega (arith, w.from.ensures, c.requires.each c.loop-i.i (omega arith)) in
+          rw w.row-is (by_value_more c.loop-i.invariant w.from.ensures inside (sym c.running.ensures ∙ w.if-running.true))
+      | else-running w ↦ rw w.row-is (by_value_same c.loop-i.invariant (sym c.running.ensures ∙ w.if-running.false))
+    ]

@@ -1,5 +1,4 @@
--- The loop keeps the tally of the operations passed: one adds to its type's counter. What is left of the operations falls.
-use Rattle.std.proofs.Common.{◌-◌, ◌≤◌, length}
+-- The loop keeps the tally of the operations passed: one adds to its type's counter.
 use Rattle.maths.specs.Rows.{at}
 use Rattle.list_step.specs.CountsByValue.{CountsByValue}
 use Rattle.list_step.specs.Turn.{uses_at}
@@ -7,7 +6,4 @@ use Rattle.model.specs.Limits as limit
 use Rattle.list_step.proofs.in_use.Given as goal
 
 abbrev pub invariant-loop-i : goal.invariant-loop-i
-invariant-loop-i l = (l.i ≤ length l.busy) × CountsByValue (at l.types) (uses_at l.busy l.starts l.step) limit.kinds l.row l.i
-
-abbrev pub decreases-loop-i : goal.decreases-loop-i
-decreases-loop-i l = length l.busy - l.i
+invariant-loop-i l = CountsByValue (at l.types) (uses_at l.busy l.starts l.step) limit.kinds l.row l.i

@@ -1,21 +1,13 @@
--- Each way out computes the test by what the branches before it tell.
-use Rattle.std.proofs.Common.{◌+◌, arith, lt-ltb, le-ltb, le-leb}
-use borrow.Author.Tests.{lt-leb}
+-- Each way out is the test that is left to decide.
+use Rattle.std.proofs.Common.{arith}
+use Rattle.std.proofs.lemmas.Bool.Decides.{nat_tests}
 use Rattle.maths.specs.Tests.{◌and◌}
 use Rattle.list_step.proofs.running.Goals as goal
 
-pub returns-then-from-eq0 : goal.returns-then-from-eq0
+pub returns-then-from-step : goal.returns-then-from-step
 unfolding ◌and◌
-returns-then-from-eq0 c = rw (le-ltb 0 c.args.start (omega arith))
+returns-then-from-step c = grind (arith, nat_tests)
 
-pub returns-then-step-from : goal.returns-then-step-from
+pub returns-else-from-step : goal.returns-else-from-step
 unfolding ◌and◌
-returns-then-step-from c = let a = c.args in rw (lt-ltb 0 a.start (omega arith), lt-leb a.start a.step (omega arith))
-
-pub returns-then-step-from-2 : goal.returns-then-step-from-2
-unfolding ◌and◌
-returns-then-step-from-2 c = let a = c.args in rw (lt-ltb 0 a.start (omega arith), le-leb a.start a.step (omega arith), lt-ltb a.step (a.start + a.busy) (omega arith))
-
-pub returns : goal.returns
-unfolding ◌and◌
-returns c = let a = c.args in rw (lt-ltb 0 a.start (omega arith), le-leb a.start a.step (omega arith), le-ltb a.step (a.start + a.busy) (omega arith))
+returns-else-from-step c = grind (arith, nat_tests)

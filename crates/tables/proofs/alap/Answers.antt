@@ -1,17 +1,26 @@
 -- `alap` meets its contract: what `placed_within` refuses, or the latest starts written over the output.
-use Rattle.tables.proofs.Filling.{latest_fits, within_fits, within_refused, alap_done}
+use Rattle.std.proofs.lemmas.Result.{err_from_is_err_and}
+use Rattle.tables.proofs.Filling.{latest_closed, latest_low, latest_room, within_few, within_room, within_refused, alap_done}
 use Rattle.tables.proofs.alap.Goals as goal
 
-pub latest-late-requires : goal.latest-late-requires
-latest-late-requires c =
-    let asked = latest_fits c.placed_within-begun.ensures c.in-Done.is in record { closed = asked.0; bound_le_steps = asked.1.0; room_within = asked.1.1 }
+pub returns-in_err-placed_within : goal.returns-in_err-placed_within
+returns-in_err-placed_within c =
+    let given = err_from_is_err_and c.from_residual.result c.from_residual.ensures.1 in rw (given.1, given.2) (within_refused _ c.in_err-placed_within.ensures)
 
-pub fill-requires : goal.fill-requires
-fill-requires c =
-    let asked = within_fits c.placed_within-begun.ensures c.in-Done.is in record { n_le_operations = asked.0; n_in_bounds = asked.1 }
+pub invariant_of-order : goal.invariant_of-order
+invariant_of-order c = record { closed = latest_closed c.in_ok-placed_within.ensures }
 
-pub returns-in-Refused : goal.returns-in-Refused
-returns-in-Refused c = within_refused c.placed_within-begun.ensures _ c.in-Refused.is
+pub latest-late-requires-clause-bound_le_steps : goal.latest-late-requires-clause-bound_le_steps
+latest-late-requires-clause-bound_le_steps c = latest_low c.in_ok-placed_within.ensures
 
-pub returns-in-Done : goal.returns-in-Done
-returns-in-Done c = alap_done c.placed_within-begun.ensures c.in-Done.is c.latest-late.ensures c.fill.ensures
+pub latest-late-requires-clause-room_within : goal.latest-late-requires-clause-room_within
+latest-late-requires-clause-room_within c = latest_room c.in_ok-placed_within.ensures
+
+pub fill-requires-clause-n_le_operations : goal.fill-requires-clause-n_le_operations
+fill-requires-clause-n_le_operations c = within_few c.in_ok-placed_within.ensures
+
+pub fill-requires-clause-n_in_bounds : goal.fill-requires-clause-n_in_bounds
+fill-requires-clause-n_in_bounds c = within_room c.in_ok-placed_within.ensures
+
+pub returns : goal.returns
+returns c = alap_done c.in_ok-placed_within.ensures c.latest-late.ensures c.fill.ensures

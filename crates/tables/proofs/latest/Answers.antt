@@ -3,43 +3,21 @@ use Rattle.std.proofs.Common.{◌+◌, ◌≤◌, arith}
 use Rattle.maths.specs.Rows.{at}
 use Rattle.theory.specs.refusals.SoundGraph.{closed_turned}
 use Rattle.tables.proofs.Reading.{reading_none, reading_step, reading_end, turned_fits}
-use Rattle.model.specs.Limits as limit
 use Rattle.tables.proofs.latest.Goals as goal
 use Rattle.tables.proofs.latest.Goals.{In-loop-i}
 
--- the start turned round and the delay fit below the bound, and the bound is low
-fits : (c : In-loop-i)
-    → (at c.by_delays.new.starts c.loop-i.i
-    + at c.args.delays.now c.loop-i.i
-    ≤ c.args.bound + 1)
-    × (c.args.bound ≤ limit.steps)
-fits c = (
-  turned_fits c.requires.closed c.requires.room_within c.by_delays.ensures c.loop-i.i c.loop-i-test.true,
-  c.requires.bound_le_steps,
-)
-
-pub by_delays-requires : goal.by_delays-requires
-by_delays-requires c = closed_turned _ c.requires.closed
-
-pub loop-i-init : goal.loop-i-init
-loop-i-init c = reading_none
-
-pub overflow_cast-starts-in-loop-i : goal.overflow_cast-starts-in-loop-i
-overflow_cast-starts-in-loop-i c = omega (arith, fits (goal.at.overflow_cast-starts-in-loop-i c).In-loop-i)
+-- the start turned round and the delay fit below the bound
+fits : (c : In-loop-i) → at c.by_delays.new.starts c.loop-i.i + at c.args.order.now.weights.now c.loop-i.i ≤ c.args.bound + 1
+fits c = turned_fits c.args.order.now.closed c.requires.room_within c.by_delays.ensures c.loop-i.i c.loop-i-test.true
 
 pub overflow_sub-starts-in-loop-i : goal.overflow_sub-starts-in-loop-i
 overflow_sub-starts-in-loop-i c = omega (arith, fits (goal.at.overflow_sub-starts-in-loop-i c).In-loop-i)
 
-pub overflow_cast-starts-in-loop-i-2 : goal.overflow_cast-starts-in-loop-i-2
-overflow_cast-starts-in-loop-i-2 c = omega (arith, fits (goal.at.overflow_cast-starts-in-loop-i-2 c).In-loop-i)
-
-pub bounds-starts-i : goal.bounds-starts-i
-bounds-starts-i c = omega (arith, fits (goal.at.bounds-starts-i c).In-loop-i)
-
 pub loop-i-preserved : goal.loop-i-preserved
-loop-i-preserved c =
-    reading_step c.requires.closed c.loop-i.invariant c.loop-i-test.true
+loop-i-preserved c = reading_step c.args.order.now.closed c.loop-i.invariant c.loop-i-test.true
 
 pub returns : goal.returns
-returns c =
-    reading_end c.requires.closed c.requires.room_within c.by_delays.ensures c.loop-i.invariant c.loop-i-test.false
+returns c = reading_end c.args.order.now.closed c.requires.room_within c.by_delays.ensures c.loop-i.invariant c.loop-i-test.false
+
+pub loop-i-init : goal.loop-i-init
+loop-i-init c = reading_none

@@ -1,46 +1,45 @@
 -- Each way out is an outcome that the contract allows, by what was asked on the way there.
-use Rattle.std.proofs.Common.{inl, inr, arith, eqb-true}
-use Rattle.theory.specs.refusals.RefusalNumbers.{first_told}
-use Rattle.list_schedule.proofs.Answering.{advance_units, unmoved, moves_given, advance_can, advance_even, advance_refused, advance_whole, advance_outside, advance_moves}
+use Rattle.std.proofs.Common.{◌≤◌, ◌<◌, ◌⊎◌, inl, inr, ⊎_elim, sym, ◌∙◌, arith}
+use Rattle.std.specs.Range.{range_inclusive_end}
+use Rattle.std.proofs.lemmas.Bool.Decides.{nat_tests}
+use Rattle.model.specs.Limits as limit
+use Rattle.std.proofs.lemmas.Result.{err_from_is_err_and}
+use Rattle.model.specs.Lent.{graph_in}
+use Rattle.theory.specs.unit_use.BusyTimes.{busy_lent}
+use Rattle.list_schedule.proofs.Answering.{advance_can, moves_given, advance_refused, advance_whole, advance_outside, advance_moves}
 use Rattle.list_schedule.proofs.State.advance.Goals as goal
 
-pub graph_with_units-fault-requires : goal.graph_with_units-fault-requires
-graph_with_units-fault-requires c = eqb-true _ _
-
-pub returns-in-Refused : goal.returns-in-Refused
-returns-in-Refused c =
-    let h = advance_units _ c.args.units.now _ (first_told _ c.in-Refused.is c.graph_with_units-fault.ensures) in
-    unmoved c.unmoved.ensures (advance_refused _ _ _ _ _ h)
+pub returns-in_err-graph_with_units : goal.returns-in_err-graph_with_units
+returns-in_err-graph_with_units c =
+    let given = err_from_is_err_and c.from_residual.result c.from_residual.ensures.1 in rw (given.1, given.2) (advance_refused (graph_in c.args.graph.now) c.args.units.now c.args.self.now.starts c.args.self.now.step c.in_err-graph_with_units.ensures)
 
 pub full-requires : goal.full-requires
-full-requires c =
-    let a = c.args in
-    let h = advance_units _ c.args.units.now _ (first_told _ c.in_default.is c.graph_with_units-fault.ensures) in
-    (advance_can a.delays.now a.types.now a.kinds a.from.now a.to.now a.units.now h).sound.few
+full-requires c = (advance_can c.args.graph.now c.args.units.now c.in_ok-graph_with_units.ensures).sound.few
 
 pub returns-then-full : goal.returns-then-full
-returns-then-full c =
-    let h = advance_units _ c.args.units.now _ (first_told _ c.in_default.is c.graph_with_units-fault.ensures) in
-    unmoved c.unmoved-then-full.ensures (advance_whole _ _ _ _ h (c.full.ensures.yes c.if-full.true))
+returns-then-full c = advance_whole (graph_in c.args.graph.now) c.args.units.now c.args.self.now.starts c.args.self.now.step c.in_ok-graph_with_units.ensures (c.full.ensures.yes c.if-full.true)
 
-pub returns-then-step-lt1 : goal.returns-then-step-lt1
-returns-then-step-lt1 c =
-    let h = advance_units _ c.args.units.now _ (first_told _ c.in_default.is c.graph_with_units-fault.ensures) in
-    unmoved c.unmoved-then-step-lt1.ensures (advance_outside _ _ _ _ h (c.full.ensures.none c.if-full.false) (inl c.if-step-lt1.true))
-
-pub returns-then-step-gt-STEPS : goal.returns-then-step-gt-STEPS
-returns-then-step-gt-STEPS c =
-    let h = advance_units _ c.args.units.now _ (first_told _ c.in_default.is c.graph_with_units-fault.ensures) in
-    unmoved c.unmoved-then-step-gt-STEPS.ensures (advance_outside _ _ _ _ h (c.full.ensures.none c.if-full.false) (inr c.if-step-gt-STEPS.true))
-
-pub next_starts-next-requires : goal.next_starts-next-requires
-next_starts-next-requires c =
+pub returns-then-not-contains : goal.returns-then-not-contains
+returns-then-not-contains c =
     let a = c.args in
-    let h = advance_units _ c.args.units.now _ (first_told _ c.in_default.is c.graph_with_units-fault.ensures) in
-    record { doable = advance_can a.delays.now a.types.now a.kinds a.from.now a.to.now a.units.now h; le_step = (omega arith, omega arith) }
+    let told = sym c.contains.ensures.value ∙ c.if-not-contains.true in
+    let out : (a.self.now.step < 1) ⊎ (range_inclusive_end c.new.result < a.self.now.step) = grind (arith, nat_tests) in
+    advance_outside (graph_in a.graph.now) a.units.now a.self.now.starts a.self.now.step c.in_ok-graph_with_units.ensures (c.full.ensures.none c.if-full.false)
+    (⊎_elim (λ l. inl l) (λ l. inr (omega (arith, c.new.ensures.end))) out)
+
+pub invariant_of-work : goal.invariant_of-work
+invariant_of-work c =
+    let sound = (advance_can c.args.graph.now c.args.units.now c.in_ok-graph_with_units.ensures).sound in
+    record { sound = sound; busy_sound = busy_lent sound }
+
+pub next_starts-self-requires-clause-doable : goal.next_starts-self-requires-clause-doable
+next_starts-self-requires-clause-doable c = advance_can c.args.graph.now c.args.units.now c.in_ok-graph_with_units.ensures
 
 pub returns : goal.returns
 returns c =
     let a = c.args in
-    let h = advance_units _ c.args.units.now _ (first_told _ c.in_default.is c.graph_with_units-fault.ensures) in
-    advance_moves _ _ _ _ h (c.full.ensures.none c.if-full.false) (omega arith) (omega arith) _ (moves_given a.delays.now a.types.now a.kinds a.from.now a.to.now a.units.now (advance_even a.delays.now a.types.now a.kinds a.from.now a.to.now a.units.now h) _ _ _ _ c.next_starts-next.ensures)
+    let passed = c.in_ok-graph_with_units.ensures in
+    let told = sym c.contains.ensures.value ∙ c.if-not-contains.false in
+    let within : (1 ≤ a.self.now.step) × (a.self.now.step ≤ limit.steps) = (grind (arith, nat_tests), grind (arith, nat_tests)) in
+    advance_moves (graph_in a.graph.now) a.units.now a.self.now.starts a.self.now.step passed (c.full.ensures.none c.if-full.false) within.0 within.1
+    (moves_given a.graph.now a.units.now passed c.next_starts-self.ensures)
