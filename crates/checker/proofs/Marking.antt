@@ -1,99 +1,103 @@
--- Marking step by step: after each, the steps passed are marked and no other counter moved.
-use mathlib.Core.Path.{◌≡◌, refl, sym, ap, ◌∙◌}
+-- Marking row by row: after each, the rows passed have one counter more and no other row changed.
+use mathlib.Core.Path.{◌≡◌, sym, ap, subst, ◌∙◌}
 use mathlib.Core.Logic.{⊎_elim}
-use mathlib.Core.Bool.{Bool}
-use mathlib.Core.List.{List}
-use Prim.Native.Nat.{ℕ, ◌+◌, ◌≤◌, ◌<◌}
+use mathlib.Core.List.{List, [], ◌++◌}
+use Prim.Native.Nat.{ℕ, ◌+◌, ◌-◌, ◌≤◌, ◌<◌}
 use native.Mathlib.Omega.{arith}
-use lib.ListN.{length, set, length-set}
-use lib.Seq.{get_or-set_same, get_or-set_other}
-use Rattle.maths.specs.Cases.{same_or_not, lt_or_le}
+use lib.ListN.{length, set, take, drop, length-set, length-append, length-drop, get_or-append}
+use lib.Seq.{get_or-set_same, get_or-set_other, get_or-take, get_or-drop, get_or-append_right, length-take-le}
+use Rattle.maths.specs.Cases.{same_or_not, lt_or_le, le_or_lt}
 use Rattle.maths.specs.Rows.{at}
 use Rattle.maths.specs.Count.{bit}
 use Rattle.model.specs.Limits as limit
-use Rattle.theory.specs.unit_use.RunningInNumbers.{runs_for, for_other, for_early, for_over, for_runs, for_end}
-use Rattle.checker.specs.Tally.{cell, Markable, Marked}
+use Rattle.theory.specs.unit_use.RunningInNumbers.{runs_for, for_other, for_early, for_over, for_runs}
+use Rattle.checker.specs.Tally.{row, cell, Markable, Marked}
 
--- what the tally is after the steps to before `step`, none of them past the last
-pub record Marking (before : List ℕ) (kind start last step : ℕ) (tally : List ℕ) : Type 0 where
-  pub from : start ≤ step
-  pub to : step ≤ last + 1
-  pub marked : Marked before kind start step tally
+-- a row with one counter more
+abbrev one_more : List ℕ → ℕ → List ℕ
+one_more r kind = set r kind (at r kind + 1)
 
--- two steps apart, or two types, do not share a counter
-cell_other : {l k m j : ℕ} → k < limit.kinds → j < limit.kinds → ((l ≡ m) × (k ≡ j) → ⊥) → cell l k ≡ cell m j → ⊥
-cell_other p q n e = n (omega arith, omega arith)
+-- the first `passed` rows have one counter more, the others are as they were
+pub record Raised (before : List (List ℕ)) (kind : ℕ) (after : List (List ℕ)) (passed : ℕ) : Type 0 where
+  pub done : (j : ℕ) → j < passed → j < length before → row after j ≡ one_more (row before j) kind
+  pub rest : (j : ℕ) → passed ≤ j → row after j ≡ row before j
 
-module _ {before : List ℕ} {kind start last : ℕ} (can : Markable before kind start last) where
-  pub marking_none : Marking before kind start last start before
-  marking_none = record {
-    from = omega arith;
-    to = omega (arith, can.forward);
-    marked = record {
-      long = refl;
-      counters = λ l k p q.
-          ⊎_elim
-          (λ e. omega (arith, ap bit (for_early kind start start k l e)))
-          (λ e. omega (arith, ap bit (for_over kind start start k l e)))
-          (lt_or_le l start);
+-- the steps' rows, taken out of the tally and put back with one counter more, are the mark
+module _ {before part : List (List ℕ)} {kind start last wide passed : ℕ} (can : Markable before kind start last)
+    (steps : wide ≡ last + 1 - start) (raised : Raised (take wide (drop start before)) kind part passed)
+    (long : length part ≡ length (take wide (drop start before))) (all : length part ≤ passed) where
+  abbrev marked : List (List ℕ)
+  marked = take start before ++ (part ++ drop wide (drop start before))
+
+  front : length (take start before) ≡ start
+  front = length-take-le start before (omega (arith, can.rows.long, can.forward, can.last_in))
+
+  part_long : length part ≡ wide
+  part_long = long ∙ length-take-le wide (drop start before) (omega (arith, length-drop start before, can.rows.long, can.last_in))
+
+  row_early : (l : ℕ) → l < start → row marked l ≡ row before l
+  row_early l e = get_or-append (take start before) _ [] l (omega (arith, front)) ∙ get_or-take start before l [] e
+
+  row_late : (l : ℕ) → last < l → row marked l ≡ row before l
+  row_late l e =
+      get_or-append_right (take start before) _ l [] (omega (arith, front, can.forward))
+      ∙ get_or-append_right part _ (l - length (take start before)) [] (omega (arith, front, part_long, can.forward))
+      ∙ get_or-drop wide (drop start before) _ []
+      ∙ get_or-drop start before _ []
+      ∙ ap (row before) (omega (arith, front, part_long, can.forward))
+
+  row_here : (l : ℕ) → start ≤ l → l ≤ last → row marked l ≡ one_more (row before l) kind
+  row_here l e f =
+      let j = l - length (take start before) in
+      let same : row (take wide (drop start before)) j ≡ row before l =
+      get_or-take wide (drop start before) j [] (omega (arith, front))
+      ∙ get_or-drop start before j []
+      ∙ ap (λ (m : ℕ). row before m) (omega (arith, front)) in
+      get_or-append_right (take start before) _ l [] (omega (arith, front))
+      ∙ get_or-append part _ [] j (omega (arith, front, part_long))
+      ∙ raised.done j (omega (arith, front, part_long)) (omega (arith, front, part_long))
+      ∙ ap (λ (r : List ℕ). one_more r kind) same
+
+  -- what holds of each row as it was, and of each row with one counter more, holds of the rows now
+  each : (P : ℕ → List ℕ → Type 0) (l : ℕ) → (l < start → P l (row before l)) → (last < l → P l (row before l))
+      → (start ≤ l → l ≤ last → P l (one_more (row before l) kind)) → P l (row marked l)
+  each P l early late here =
+      ⊎_elim
+      (λ e. subst (P l) (sym (row_early l e)) (early e))
+      (λ e.
+      ⊎_elim
+      (λ f. subst (P l) (sym (row_here l e f)) (here e f))
+      (λ f. subst (P l) (sym (row_late l f)) (late f))
+      (le_or_lt l last))
+      (lt_or_le l start)
+
+  pub marked_rows : Marked before kind start (last + 1) marked
+  marked_rows = record {
+    rows = record {
+      long = omega (arith, length-append (take start before) (part ++ drop wide (drop start before)), length-append part (drop wide (drop start before)), length-drop wide (drop start before), length-drop start before, front, part_long, can.rows.long, can.forward, can.last_in);
+      wide = λ l p.
+          each (λ (l : ℕ) (r : List ℕ). length r ≡ limit.kinds) l (λ e. can.rows.wide l p) (λ e. can.rows.wide l p)
+          (λ e f. length-set (row before l) kind _ ∙ can.rows.wide l p);
     };
+    counters = λ l k p q.
+        each (λ (l : ℕ) (r : List ℕ). at r k ≡ cell before l k + bit (runs_for kind start (last + 1) k l)) l
+        (λ e. omega (arith, ap bit (for_early kind start (last + 1) k l e)))
+        (λ e. omega (arith, ap bit (for_over kind start (last + 1) k l (omega arith))))
+        (λ e f.
+        ⊎_elim
+        (λ same.
+        omega (
+          arith,
+          ap (at (one_more (row before l) kind)) same,
+          ap (at (row before l)) same,
+          get_or-set_same (row before l) kind (cell before l kind + 1) 0 (omega (arith, can.rows.wide l p, can.kind_in)),
+          ap bit (for_runs kind start (last + 1) k l (sym same) e (omega arith)),
+        ))
+        (λ n.
+        omega (
+          arith,
+          get_or-set_other (row before l) kind k (cell before l kind + 1) 0 n,
+          ap bit (for_other kind start (last + 1) k l (λ x. n (sym x))),
+        ))
+        (same_or_not k kind));
   }
-
-  module _ {step : ℕ} {tally : List ℕ} (h : Marking before kind start last step tally) (more : step ≤ last) where
-    -- the counter that goes up next is no higher than the operations
-    pub marking_low : at tally (cell step kind) < limit.operations
-    marking_low =
-        omega (
-          arith,
-          h.marked.counters step kind (omega (arith, can.last_in)) can.kind_in,
-          ap bit (for_over kind start step kind step (omega arith)),
-          can.low step (omega (arith, can.last_in)),
-        )
-
-    -- another counter stays, and so does what it is to say
-    other : (l k : ℕ) → l ≤ limit.steps → k < limit.kinds → ((l ≡ step) × (k ≡ kind) → ⊥)
-        → runs_for kind start (step + 1) k l ≡ runs_for kind start step k l
-        → at (set tally (cell step kind) (at tally (cell step kind) + 1)) (cell l k) ≡ at before (cell l k) + bit (runs_for kind start (step + 1) k l)
-    other l k p q n e =
-        get_or-set_other tally (cell step kind) (cell l k) (at tally (cell step kind) + 1) 0 (cell_other q can.kind_in n)
-        ∙ h.marked.counters l k p q
-        ∙ ap (λ (b : Bool). at before (cell l k) + bit b) (sym e)
-
-    -- this one goes up
-    this : (l k : ℕ) → l ≡ step → k ≡ kind
-        → at (set tally (cell step kind) (at tally (cell step kind) + 1)) (cell l k) ≡ at before (cell l k) + bit (runs_for kind start (step + 1) k l)
-    this l k e f =
-        let place : cell l k ≡ cell step kind = omega arith in
-        let inside : cell step kind < length tally = omega (arith, h.marked.long, can.long, can.last_in, can.kind_in) in
-        omega (
-          arith,
-          ap (at (set tally (cell step kind) (at tally (cell step kind) + 1))) place,
-          ap (at before) place,
-          get_or-set_same tally (cell step kind) (at tally (cell step kind) + 1) 0 inside,
-          h.marked.counters step kind (omega (arith, can.last_in)) can.kind_in,
-          ap bit (for_over kind start step kind step (omega arith)),
-          ap bit (for_runs kind start (step + 1) k l (sym f) (omega (arith, h.from)) (omega arith)),
-        )
-
-    pub marking_step : Marking before kind start last (step + 1) (set tally (cell step kind) (at tally (cell step kind) + 1))
-    marking_step = record {
-      from = omega (arith, h.from);
-      to = omega arith;
-      marked = record {
-        long = length-set tally _ _ ∙ h.marked.long;
-        counters = λ l k p q.
-            ⊎_elim
-            (λ e.
-            ⊎_elim
-            (λ f. this l k e f)
-            (λ n.
-            other l k p q (λ x. n x.1)
-            (for_other kind start (step + 1) k l (λ x. n (sym x)) ∙ sym (for_other kind start step k l (λ x. n (sym x)))))
-            (same_or_not k kind))
-            (λ n. other l k p q (λ x. n x.0) (for_end kind start step k l n))
-            (same_or_not l step);
-      };
-    }
-
-  pub marking_end : {step : ℕ} {tally : List ℕ} → Marking before kind start last step tally → last < step → Marked before kind start (last + 1) tally
-  marking_end {step} h e = let same : step ≡ last + 1 = omega (arith, h.to) in rw same at h.marked

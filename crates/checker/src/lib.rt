@@ -15,43 +15,44 @@ ghost use Rattle.checker.specs.Tally.{Markable, Marked, OverCell, Reads};
 ghost use Rattle.checker.specs.Findings.{Tallyable, Overs};
 
 use model::graph::Graph;
-use model::limits::{CELLS, KINDS};
+use model::limits::{KINDS, STEPS};
 use model::order::Order;
 use model::work::Work;
 use model::{Finding, Refusal};
 
 // Marks an operation in the tally: the counter of its type goes up at every step that it runs, the first and the last among them.
-fn mark(tally: &mut [u16; CELLS], kind: usize, start: usize, last: usize)
+fn mark(tally: &mut [[u16; KINDS]; STEPS + 1], kind: usize, start: usize, last: usize)
     requires { Markable tally.old kind start last }
     ensures { Marked tally.old kind start (last + 1) tally.new }
 {
-    for step in start..=last {
-        tally[step * KINDS + kind] += 1;
+    for row in &mut tally[start..=last] {
+        row[kind] += 1;
     }
 }
 
-// At one step the lowest type whose counter is above the type's units.
-fn over_at(tally: &[u16; CELLS], units: &[u8], step: usize) -> Option<usize>
-    requires units_len_bound { length units.now ≤ limit.kinds }
-    requires step_le_steps { step ≤ limit.steps }
-    ensures { LowestIf (OverCell tally.now units.now step) (length units.now) result }
+// In a step's row the lowest type whose counter is above the type's units.
+fn over_at(row: &[u16; KINDS], units: &[u8]) -> Option<usize>
+    requires { length units.now ≤ limit.kinds }
+    ensures { LowestIf (OverCell row.now units.now) (length units.now) result }
 {
-    for (kind, count) in units.iter().enumerate() {
-        if (*count as u16) < tally[step * KINDS + kind] {
-            return Some(kind);
-        }
-    }
-    None
+    units
+        .iter()
+        .zip(row)
+        .position(|(count, used)| (*count as u16) < *used)
 }
 
 // The first step from 1 to the bound, and its lowest type, whose counter is above the type's units.
-fn first_over(tally: &[u16; CELLS], units: &[u8], bound: usize) -> Option<(usize, usize)>
+fn first_over(
+    tally: &[[u16; KINDS]; STEPS + 1],
+    units: &[u8],
+    bound: usize,
+) -> Option<(usize, usize)>
     requires units_len_bound { length units.now ≤ limit.kinds }
     requires bound_le_steps { bound ≤ limit.steps }
     ensures { Reads tally.now units.now bound result }
 {
     for step in 1..=bound {
-        if let Some(kind) = over_at(tally, units, step) {
+        if let Some(kind) = over_at(&tally[step], units) {
             return Some((step, kind));
         }
     }
@@ -69,7 +70,7 @@ fn over_use(
     requires { Tallyable busy.now types.now units.now bound starts.now }
     ensures { (delays from to : List ℕ) → length delays ≡ length busy.now → Overs (graph_of delays busy.now types.now (length units.now) from to) units.now starts.now result }
 {
-    let mut tally = [0u16; CELLS];
+    let mut tally = [[0u16; KINDS]; STEPS + 1];
     for (i, kind) in types.iter().enumerate() {
         let start = starts[i] as usize;
         let last = start + busy[i] as usize - 1;
@@ -83,13 +84,10 @@ fn untimely(delays: &[u8], bound: usize, starts: &[u16]) -> Option<usize>
     requires { length starts.now ≡ length delays.now }
     ensures { (busy types : List ℕ) (kinds : ℕ) (from to : List ℕ) → LowestIf (fault.Untimely (graph_of delays.now busy types kinds from to) bound starts.now) (length delays.now) result }
 {
-    for (i, delay) in delays.iter().enumerate() {
-        let start = starts[i] as usize;
-        if start == 0 || bound < start + *delay as usize - 1 {
-            return Some(i);
-        }
-    }
-    None
+    delays.iter().zip(starts).position(|(delay, start)| {
+        let start = *start as usize;
+        start == 0 || bound < start + *delay as usize - 1
+    })
 }
 
 // The lowest edge whose end starts before its beginning is over, where there is one, whatever the busy times and types are.
