@@ -44,8 +44,10 @@ part_of first count None = record { refusal = 0; start = first; length = count }
 part_of first count (Some why) = record { refusal = (numbered why).0; start = 0; length = 0 }
 
 -- the refusal of `view_refusal`, and the part that `view` hands back
-abbrev pub PartSaid : Table → Table → ℕ → ℕ → ℕ → Part → Type 0
-PartSaid a b channel first count = HandsOn (ViewRefusal a b channel first count) (part_of first count)
+pub record PartSaid (a b : Table) (channel first count : ℕ) (r : Part) : Type 0 where
+  pub answer : rust.Option Refusal
+  pub refused : ViewRefusal a b channel first count answer
+  pub said : r ≡ part_of first count answer
 
 -- the latency, 0 when refused
 abbrev pub scheduled_of : Result ℕ Refusal → Scheduled

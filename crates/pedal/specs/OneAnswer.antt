@@ -16,7 +16,6 @@ use Rattle.model.specs.Verdicts.{Checked, PeakAnswer}
 use Rattle.model.specs.Listing.{ListerAnswer}
 use Rattle.theory.specs.lister.OneListerAnswer.{lister_answer_one}
 use Rattle.model.specs.Channels.{Table}
-use Rattle.model.specs.Views.{ViewRefusal}
 use Rattle.theory.specs.views.OneView.{view_refusal_one}
 use Rattle.checker.specs.OneAnswer.{check_one}
 use Rattle.peak_use.specs.OneAnswer.{peak_use_one}
@@ -69,8 +68,8 @@ pub pedal_listed_one : (g : Graph) (units : List ℕ) (bound : ℕ) (asked : Opt
 pedal_listed_one g units bound asked out = row_one (ListerAnswer g units bound asked out) listed_of (lister_answer_one g units bound asked out)
 
 pub pedal_view_one : (a b : Table) (channel first count : ℕ) (r s : Part) → PartSaid a b channel first count r → PartSaid a b channel first count s → r ≡ s
-pedal_view_one a b channel first count =
-    said_one (ViewRefusal a b channel first count) (part_of first count) (view_refusal_one a b channel first count)
+pedal_view_one a b channel first count r s h k =
+    h.said ∙ ap (part_of first count) (view_refusal_one a b channel first count h.answer k.answer h.refused k.refused) ∙ sym k.said
 
 -- the advance of a state, or the refusal of a row that is none
 pub pedal_advance_one : (g : Graph) (units before : List ℕ) (step : ℕ) (r s : Advanced) (x y : List ℕ) → AdvanceSaid g units before step r x → AdvanceSaid g units before step s y
