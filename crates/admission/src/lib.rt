@@ -10,14 +10,12 @@ mod shape;
 ghost use Rattle.std.specs.Prelude.{◌≡◌, true, false, length};
 ghost use Rattle.model.specs.Lent.{graph_in};
 ghost use Rattle.model.specs.Graph.{order};
-ghost use Rattle.model.specs.Refusals.{First};
+ghost use Rattle.model.specs.Refusals.{First, large_bound};
 ghost use Rattle.model.specs.Answers.{refusal_of};
 ghost use Rattle.admission.specs.Admitted.{Admitted, graph_checks, graph_unit_checks, placed_checks, placed_unit_checks, placed_within_checks, placed_unit_within_checks};
-
-pub use bounds::bound_fault;
 use model::Refusal;
 use model::graph::Graph;
-use model::limits::OPERATIONS;
+use model::limits::{OPERATIONS, STEPS};
 use model::order::Order;
 
 // Without an output row: refusals 1 to 4 and 7.
@@ -123,4 +121,14 @@ pub fn placed_with_units_within(
         bound,
         starts,
     )
+}
+
+// Refusal 8, alone: the bound is past the last step.
+pub fn bound_fault(bound: usize) -> Result<(), Refusal>
+    ensures { First (large_bound bound) (refusal_of result) }
+{
+    if STEPS < bound {
+        return Err(Refusal::BoundTooLarge);
+    }
+    Ok(())
 }

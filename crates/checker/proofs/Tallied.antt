@@ -14,8 +14,7 @@ use Rattle.model.specs.Use.{runs, running}
 use Rattle.theory.specs.unit_use.RunningAndPeak.{running_none}
 use Rattle.theory.specs.unit_use.RunningInNumbers.{runs_for_is}
 use Rattle.model.specs.Faults as fault
-use Rattle.model.specs.declared.Finding.{Finding}
-use Rattle.model.specs.declared.Finding.TheVariants as found
+use Rattle.std.specs.Prelude.{Option, None as Nothing, Some}
 use Rattle.checker.specs.Tally.{cell, Markable, Marked, Tally, OverCell, Reads}
 use Rattle.checker.specs.Findings.{Overs}
 
@@ -94,15 +93,12 @@ module _ (g : Graph) (units : List ℕ) (bound : ℕ) (t tally : List ℕ) (even
     more = omega (arith, o.more, full l k p (omega (arith, o.kind)));
   }
 
-  pub reads_overs : (f : Finding) → Reads tally units bound f → Overs g units t f
+  pub reads_overs : (f : Option (ℕ × ℕ)) → Reads tally units bound f → Overs g units t f
   unfolding Reads Overs
-  reads_overs found.Lawful q =
+  reads_overs Nothing q =
       λ l k o. q.none_before l k (over_early l k o) (omega (arith, over_late l k o)) (cell_over l k o)
-  reads_overs (found.Untimely i) q = q
-  reads_overs (found.Broken e) q = q
-  reads_overs (found.OverUse l k) q = record {
-    over = over_cell l k q.inside q.over;
+  reads_overs (Some (l, k)) q = record {
+    over = over_cell l k q.inside q.lowest.holds;
     none_before = λ m j b o. q.quiet.none_before m j (over_early m j o) b (cell_over m j o);
-    none_below = λ j b o. q.quiet_below.none_below j b (cell_over l j o);
+    none_below = λ j b o. q.lowest.none_before j b (cell_over l j o);
   }
-  reads_overs (found.Refused why) q = q

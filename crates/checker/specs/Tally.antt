@@ -1,13 +1,12 @@
 -- The tally: a counter for each step and type, the mark that an operation leaves in it, and what is read off it.
-use Rattle.std.specs.Prelude.{◌≡◌, List, ℕ, ◌+◌, ◌*◌, ◌≤◌, ◌<◌, length}
+use Rattle.std.specs.Prelude.{◌≡◌, List, ℕ, ◌+◌, ◌*◌, ◌≤◌, ◌<◌, length, Option, None, Some}
+use Rattle.maths.specs.Lowest.{Lowest}
 use Rattle.maths.specs.Rows.{at}
 use Rattle.maths.specs.Count.{bit, count}
 use Rattle.model.specs.Limits as limit
 use Rattle.model.specs.Graph.{Graph, many}
 use Rattle.model.specs.Use.{runs}
 use Rattle.theory.specs.unit_use.RunningInNumbers.{runs_for}
-use Rattle.model.specs.declared.Finding.{Finding}
-use Rattle.model.specs.declared.Finding.TheVariants as found
 
 -- the place of the counter of step l and type k
 abbrev pub cell : ℕ → ℕ → ℕ
@@ -41,22 +40,14 @@ pub record OverCell (tally units : List ℕ) (l k : ℕ) : Type 0 where
 pub record Quiet (tally units : List ℕ) (step : ℕ) : Type 0 where
   pub none_before : (l k : ℕ) → 1 ≤ l → l < step → OverCell tally units l k → ⊥
 
--- at step l no type below k has a counter above its units
-pub record QuietBelow (tally units : List ℕ) (l k : ℕ) : Type 0 where
-  pub none_below : (j : ℕ) → j < k → OverCell tally units l j → ⊥
-
 -- the first step from 1 to the bound with a counter above its type's units, and its lowest type
 pub record FirstCell (tally units : List ℕ) (bound l k : ℕ) : Type 0 where
   pub from_one : 1 ≤ l
   pub inside : l ≤ bound
-  pub over : OverCell tally units l k
+  pub lowest : Lowest (OverCell tally units l) (length units) k
   pub quiet : Quiet tally units l
-  pub quiet_below : QuietBelow tally units l k
 
 -- what is read off the tally: no counter above its type's units up to the bound, or the first
-unfoldable pub Reads : List ℕ → List ℕ → ℕ → Finding → Type 0
-Reads tally units bound found.Lawful = Quiet tally units (bound + 1)
-Reads tally units bound (found.Untimely i) = ⊥
-Reads tally units bound (found.Broken e) = ⊥
-Reads tally units bound (found.OverUse l k) = FirstCell tally units bound l k
-Reads tally units bound (found.Refused why) = ⊥
+unfoldable pub Reads : List ℕ → List ℕ → ℕ → Option (ℕ × ℕ) → Type 0
+Reads tally units bound None = Quiet tally units (bound + 1)
+Reads tally units bound (Some (l, k)) = FirstCell tally units bound l k

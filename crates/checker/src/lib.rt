@@ -1,190 +1,162 @@
 // Unit use: the schedule checker.
 #![tactic(auto)]
 
-ghost use Rattle.std.specs.Prelude.{◌≡◌, List, ℕ, ◌+◌, ◌≤◌, ◌<◌, length};
-ghost use Rattle.maths.specs.Cases.{Tells};
+ghost use Rattle.std.specs.Prelude.{◌≡◌, List, ℕ, ◌+◌, ◌≤◌, length};
+ghost use Rattle.maths.specs.Search.{LowestIf};
 ghost use Rattle.model.specs.Limits as limit;
-ghost use Rattle.model.specs.Order.{ordered, Closed};
-ghost use Rattle.model.specs.Graph.{BusySound, graph_of, lent};
+ghost use Rattle.model.specs.Graph.{graph_of};
+ghost use Rattle.model.specs.Lent.{graph_in, work_in};
 ghost use Rattle.model.specs.Refusals.{First};
 ghost use Rattle.model.specs.Answers.{refusal_of};
 ghost use Rattle.model.specs.Faults as fault;
-ghost use Rattle.model.specs.Verdicts.{Checked};
+ghost use Rattle.model.specs.Verdicts.{Finds, Checked};
 ghost use Rattle.model.specs.Checks.{check_checks};
-ghost use Rattle.maths.specs.Search.{LowestOr};
-ghost use Rattle.checker.specs.Tally.{Markable, Marked, Reads};
-ghost use Rattle.checker.specs.Findings.{Tallyable, Overs, Askable, Settled};
+ghost use Rattle.checker.specs.Tally.{Markable, Marked, OverCell, Reads};
+ghost use Rattle.checker.specs.Findings.{Tallyable, Overs};
 
+use model::graph::Graph;
 use model::limits::{CELLS, KINDS};
-use model::{Answer, Finding, Verdict};
+use model::order::Order;
+use model::work::Work;
+use model::{Finding, Refusal};
 
 // Marks an operation in the tally: the counter of its type goes up at every step that it runs, the first and the last among them.
 fn mark(tally: &mut [u16; CELLS], kind: usize, start: usize, last: usize)
     requires { Markable tally.old kind start last }
     ensures { Marked tally.old kind start (last + 1) tally.new }
 {
-    let mut step = start;
-    while step <= last {
+    for step in start..=last {
         tally[step * KINDS + kind] += 1;
-        step += 1;
     }
 }
 
-// The first step from 1 to the bound, and its lowest type, whose counter is above the type's units; lawful where there is none.
-fn first_over(tally: &[u16; CELLS], units: &[u8], bound: usize) -> Finding
+// At one step the lowest type whose counter is above the type's units.
+fn over_at(tally: &[u16; CELLS], units: &[u8], step: usize) -> Option<usize>
+    requires units_len_bound { length units.now ≤ limit.kinds }
+    requires step_le_steps { step ≤ limit.steps }
+    ensures { LowestIf (OverCell tally.now units.now step) (length units.now) result }
+{
+    for (kind, count) in units.iter().enumerate() {
+        if (*count as u16) < tally[step * KINDS + kind] {
+            return Some(kind);
+        }
+    }
+    None
+}
+
+// The first step from 1 to the bound, and its lowest type, whose counter is above the type's units.
+fn first_over(tally: &[u16; CELLS], units: &[u8], bound: usize) -> Option<(usize, usize)>
     requires units_len_bound { length units.now ≤ limit.kinds }
     requires bound_le_steps { bound ≤ limit.steps }
     ensures { Reads tally.now units.now bound result }
 {
-    let mut found = Finding::Lawful;
-    let mut step = 1;
-    'steps: while step <= bound {
-        let mut kind = 0;
-        while kind < units.len() {
-            if (units[kind] as u16) < tally[step * KINDS + kind] {
-                found = Finding::OverUse(step, kind);
-                break 'steps;
-            }
-            kind += 1;
+    for step in 1..=bound {
+        if let Some(kind) = over_at(tally, units, step) {
+            return Some((step, kind));
         }
-        step += 1;
     }
-    found
+    None
 }
 
 // The over-use of a schedule that is timely: its earliest step, and there the lowest type, whatever the delays and edges are.
-fn over_use(busy: &[u8], types: &[u8], units: &[u8], bound: usize, starts: &[u16]) -> Finding
+fn over_use(
+    busy: &[u8],
+    types: &[u8],
+    units: &[u8],
+    bound: usize,
+    starts: &[u16],
+) -> Option<(usize, usize)>
     requires { Tallyable busy.now types.now units.now bound starts.now }
     ensures { (delays from to : List ℕ) → length delays ≡ length busy.now → Overs (graph_of delays busy.now types.now (length units.now) from to) units.now starts.now result }
 {
     let mut tally = [0u16; CELLS];
-    let mut i = 0;
-    while i < busy.len() {
+    for (i, kind) in types.iter().enumerate() {
         let start = starts[i] as usize;
-        mark(
-            &mut tally,
-            types[i] as usize,
-            start,
-            start + busy[i] as usize - 1,
-        );
-        i += 1;
+        let last = start + busy[i] as usize - 1;
+        mark(&mut tally, *kind as usize, start, last);
     }
     first_over(&tally, units, bound)
 }
 
-// The lowest operation with a start of 0 or a finish past the bound, or the number of operations, whatever the busy times, types and edges are.
-fn untimely(delays: &[u8], bound: usize, starts: &[u16]) -> usize
+// The lowest operation with a start of 0 or a finish past the bound, where there is one, whatever the busy times, types and edges are.
+fn untimely(delays: &[u8], bound: usize, starts: &[u16]) -> Option<usize>
     requires { length starts.now ≡ length delays.now }
-    ensures { (busy types : List ℕ) (kinds : ℕ) (from to : List ℕ) → LowestOr (fault.Untimely (graph_of delays.now busy types kinds from to) bound starts.now) (length delays.now) result }
+    ensures { (busy types : List ℕ) (kinds : ℕ) (from to : List ℕ) → LowestIf (fault.Untimely (graph_of delays.now busy types kinds from to) bound starts.now) (length delays.now) result }
 {
-    let mut i = 0;
-    while i < delays.len() {
+    for (i, delay) in delays.iter().enumerate() {
         let start = starts[i] as usize;
-        if start == 0 {
-            return i;
+        if start == 0 || bound < start + *delay as usize - 1 {
+            return Some(i);
         }
-        if bound < start + delays[i] as usize - 1 {
-            return i;
-        }
-        i += 1;
     }
-    i
+    None
 }
 
-// Whether a start comes before a predecessor that starts at `earlier` is over.
-fn too_early(start: u16, earlier: u16, delay: u8) -> bool
-    ensures { Tells result (start < earlier + delay) }
+// The lowest edge whose end starts before its beginning is over, where there is one, whatever the busy times and types are.
+fn broken(order: &Order, starts: &[u16]) -> Option<usize>
+    requires { length starts.now ≡ length order.now.weights.now }
+    ensures { (busy types : List ℕ) (kinds : ℕ) → LowestIf (fault.Broken (graph_of order.now.weights.now busy types kinds order.now.from.now order.now.to.now) starts.now) (length order.now.from.now) result }
 {
-    (start as usize) < earlier as usize + delay as usize
-}
-
-// The lowest edge whose end starts before its beginning is over, or the number of edges, whatever the busy times and types are.
-fn broken(delays: &[u8], from: &[u16], to: &[u16], starts: &[u16]) -> usize
-    requires closed { Closed limit.longest (ordered delays.now from.now to.now) }
-    requires starts_len { length starts.now ≡ length delays.now }
-    ensures { (busy types : List ℕ) (kinds : ℕ) → LowestOr (fault.Broken (graph_of delays.now busy types kinds from.now to.now) starts.now) (length from.now) result }
-{
-    let mut e = 0;
-    while e < from.len() {
-        let source = from[e] as usize;
-        let target = to[e] as usize;
-        if too_early(starts[target], starts[source], delays[source]) {
-            return e;
+    for (e, source) in order.from.iter().enumerate() {
+        let source = *source as usize;
+        let target = order.to[e] as usize;
+        if (starts[target] as usize) < starts[source] as usize + order.weights[source] as usize {
+            return Some(e);
         }
-        e += 1;
     }
-    e
+    None
 }
 
 // What is found in a schedule that is not refused: starts, finishes and edges go by the delays, over-use by the busy times.
-fn judge(
-    delays: &[u8],
-    busy: &[u8],
-    types: &[u8],
-    kinds: usize,
-    from: &[u16],
-    to: &[u16],
-    units: &[u8],
-    bound: usize,
-    starts: &[u16],
-) -> Finding
-    requires askable { Askable (graph_of delays.now busy.now types.now kinds from.now to.now) units.now bound starts.now }
-    requires busy_sound { BusySound (graph_of delays.now busy.now types.now kinds from.now to.now) }
-    ensures { Settled (graph_of delays.now busy.now types.now kinds from.now to.now) units.now bound starts.now result }
+fn judge(work: &Work, bound: usize, starts: &[u16]) -> Finding
+    requires starts_len { length starts.now ≡ length work.now.delays.now }
+    requires bound_in { bound ≤ limit.steps }
+    ensures { Finds (work_in work.now) work.now.units.now bound starts.now result }
 {
-    let operation = untimely(delays, bound, starts);
-    if operation < delays.len() {
-        return Finding::Untimely(operation);
+    if let Some(i) = untimely(work.delays, bound, starts) {
+        return Finding::Untimely(i);
     }
-    let edge = broken(delays, from, to, starts);
-    if edge < from.len() {
-        return Finding::Broken(edge);
+    let order = Order {
+        weights: work.delays,
+        from: work.from,
+        to: work.to,
+    };
+    if let Some(e) = broken(&order, starts) {
+        return Finding::Broken(e);
     }
-    over_use(busy, types, units, bound, starts)
+    match over_use(work.busy, work.types, work.units, bound, starts) {
+        Some((step, kind)) => Finding::OverUse(step, kind),
+        None => Finding::Lawful,
+    }
 }
 
 // The checker's refusals: 1 to 4, 6, 7 and 8.
-fn check_fault(
-    delays: &[u8],
-    types: &[u8],
-    kinds: usize,
-    from: &[u16],
-    to: &[u16],
-    units: &[u8],
-    bound: usize,
-    starts: &[u16],
-) -> Answer
-    ensures { First (check_checks (lent delays.now types.now kinds from.now to.now) units.now bound starts.now) (refusal_of result) }
+fn check_fault(graph: &Graph, units: &[u8], bound: usize, starts: &[u16]) -> Result<(), Refusal>
+    ensures { First (check_checks (graph_in graph.now) units.now bound starts.now) (refusal_of result) }
 {
-    let even = admission::rows::rows_match(units.len(), kinds, starts.len(), delays.len());
-    let fault = admission::graph_with_units(delays, types, kinds, from, to, units, even);
-    match fault {
-        Answer::Refused(why) => Answer::Refused(why),
-        Answer::Done => admission::bound_fault(bound),
-    }
+    let even = admission::rows::rows_match(
+        units.len(),
+        graph.kinds,
+        starts.len(),
+        graph.delays.len(),
+    );
+    admission::graph_with_units(graph, units, even)?;
+    admission::bound_fault(bound)
 }
 
 // Whether a schedule is lawful for the graph, the unit counts and the bound; if not, its first fault.
-pub fn check(
-    delays: &[u8],
-    types: &[u8],
-    kinds: usize,
-    from: &[u16],
-    to: &[u16],
-    units: &[u8],
-    bound: usize,
-    starts: &[u16],
-) -> Verdict
-    ensures { Checked (lent delays.now types.now kinds from.now to.now) units.now bound starts.now result }
+pub fn check(graph: &Graph, units: &[u8], bound: usize, starts: &[u16]) -> Result<Finding, Refusal>
+    ensures { Checked (graph_in graph.now) units.now bound starts.now result }
 {
-    let fault = check_fault(delays, types, kinds, from, to, units, bound, starts);
-    match fault {
-        Answer::Refused(why) => Verdict {
-            finding: Finding::Refused(why),
-        },
-        Answer::Done => Verdict {
-            // an operation keeps its unit for its delay
-            finding: judge(delays, delays, types, kinds, from, to, units, bound, starts),
-        },
-    }
+    check_fault(graph, units, bound, starts)?;
+    let work = Work {
+        delays: graph.delays,
+        // an operation keeps its unit for its delay
+        busy: graph.delays,
+        types: graph.types,
+        units,
+        from: graph.from,
+        to: graph.to,
+    };
+    Ok(judge(&work, bound, starts))
 }

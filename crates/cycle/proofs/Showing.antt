@@ -15,15 +15,7 @@ use Rattle.theory.specs.cycle.LowestPredecessors.{Backed, backed_end, Leads}
 use Rattle.theory.specs.cycle.WalkUntilMetAgain.{NeverLeaves, leads_stays, MetAgain, trail_made}
 use Rattle.theory.specs.cycle.WritingTheCycle.{LeastNumber, Wrote, shown_made}
 use Rattle.cycle.specs.Show.{KeptAt, Shows}
-use Rattle.cycle.specs.Parts.{Blank, EndsInside, FirstBlank, Trailed}
-
--- a closed order's edges end below the limit
-pub ends : {o : Order} {heaviest : ℕ} → Closed heaviest o → EndsInside o.from o.to
-ends closed = record {
-  even = closed.even;
-  source_in = λ e l. omega (arith, closed.source_in e l, closed.few);
-  target_in = λ e l. omega (arith, closed.target_in e l, closed.few);
-}
+use Rattle.cycle.specs.Parts.{Blank, FirstBlank, Trailed}
 
 module _ {heaviest : ℕ} {o : Order} {starts back : List ℕ} {first : ℕ} (closed : Closed heaviest o) (marked : KeptAt o starts) (cyclic : Cyclic o)
     (backed : Backed o.from o.to (Blank starts) back (edge_count o)) (blank : FirstBlank starts (size o) first) where

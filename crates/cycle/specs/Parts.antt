@@ -9,12 +9,6 @@ use Rattle.model.specs.Cycle.{Trail}
 abbrev pub Blank : List ℕ → ℕ → Type 0
 Blank row i = at row i ≡ 0
 
--- each edge has two ends, below the limit
-pub record EndsInside (from to : List ℕ) : Type 0 where
-  pub even : length to ≡ length from
-  pub source_in : (e : ℕ) → e < length from → at from e < limit.operations
-  pub target_in : (e : ℕ) → e < length from → at to e < limit.operations
-
 -- r is the lowest below n at which the row has 0, or n
 pub record FirstBlank (row : List ℕ) (n r : ℕ) : Type 0 where
   pub within : r ≤ n
@@ -28,14 +22,8 @@ pub record Trailed (o : Order) (met : List ℕ) (count twice : ℕ) : Type 0 whe
   pub inside : twice < count
   pub trail : Trail o (take count met) twice
 
--- from `twice` to before `count` there is a place, and all are below the limit
-pub record Span (twice count : ℕ) : Type 0 where
-  pub some : twice < count
-  pub few : count ≤ limit.operations
-
--- `lowest` is such a place, and the steps are at most a whole round
+-- `lowest` is a place from `twice` to before `count`, and the steps are at most a whole round
 pub record PartOfRound (twice count lowest steps : ℕ) : Type 0 where
   pub late : twice ≤ lowest
   pub inside : lowest < count
-  pub few : count ≤ limit.operations
   pub most : steps + twice ≤ count

@@ -1,42 +1,82 @@
-// The cycle shown of document 01: from the lowest kept number again and again to the lowest kept predecessor, until one is met twice.
+// The cycle shown: from the lowest kept number again and again to the lowest kept predecessor, until one is met twice.
 #![tactic(auto)]
 
 ghost use Rattle.std.specs.Prelude.{◌≡◌, ◌-◌, ◌≤◌, ◌<◌, length};
 ghost use Rattle.model.specs.Limits as limit;
 ghost use Rattle.model.specs.Order.{Cyclic, size};
 ghost use Rattle.model.specs.Lent.{order_in};
-ghost use Rattle.theory.specs.cycle.LowestPredecessors.{Lower, Backed};
+ghost use Rattle.theory.specs.cycle.LowestPredecessors.{Backed};
 ghost use Rattle.theory.specs.cycle.WalkUntilMetAgain.{NeverLeaves, MetAgain};
 ghost use Rattle.theory.specs.cycle.TurnedRound.{Turned};
-ghost use Rattle.theory.specs.cycle.WritingTheCycle.{Lesser, LeastNumber, Wrote};
+ghost use Rattle.theory.specs.cycle.WritingTheCycle.{LeastNumber, Wrote};
 ghost use Rattle.cycle.specs.Show.{KeptAt, Shows};
-ghost use Rattle.cycle.specs.Parts.{Blank, EndsInside, FirstBlank, Trailed, Span, PartOfRound};
+ghost use Rattle.cycle.specs.Parts.{Blank, FirstBlank, Trailed, PartOfRound};
 
 use model::limits::OPERATIONS;
 use model::order::Order;
 
-// The lower of two numbers, where the new one counts only if its start is 0.
-fn lower(start: u16, new: u16, old: u16) -> u16
-    ensures { Lower (start ≡ 0) new old result }
-{
-    if start != 0 {
-        return old;
-    }
-    if new < old { new } else { old }
+// What was met, how many, and the place of the one that came again. The row has room for every operation, since there is no heap.
+#[derive(Clone, Copy)]
+struct Walked {
+    met: [u16; OPERATIONS],
+    count: usize,
+    twice: usize,
+    ghost inside: { twice < count },
+    ghost few: { count ≤ limit.operations },
 }
 
-// For each operation the lowest with start 0 that has an edge to it, and the limit where there is none.
-fn backs(from: &[u16], to: &[u16], starts: &[u16; OPERATIONS]) -> [u16; OPERATIONS]
-    requires { EndsInside from.now to.now }
-    ensures { Backed from.now to.now (Blank starts.now) result (length from.now) }
+impl Walked {
+    // How long the cycle is: what was met from `twice` on.
+    fn long(&self) -> usize
+        ensures { result ≡ self.now.count - self.now.twice }
+    {
+        self.count - self.twice
+    }
+
+    // The place of the lowest number that was met at `twice` or later.
+    fn lowest(&self) -> usize
+        ensures { LeastNumber self.now.met self.now.twice self.now.count result }
+    {
+        (self.twice..self.count)
+            .min_by_key(|place| self.met[*place])
+            .unwrap_or(self.twice)
+    }
+
+    // The place so many steps on from the lowest number's: after the last place comes `twice`.
+    fn place(&self, lowest: usize, steps: usize) -> usize
+        requires { PartOfRound self.now.twice self.now.count lowest steps }
+        ensures { Turned self.now.twice self.now.count lowest steps result }
+    {
+        let straight = lowest + steps;
+        if straight < self.count {
+            straight
+        } else {
+            straight - self.long()
+        }
+    }
+
+    // Writes the cycle from its lowest number on, in edge direction, which is against the way that was gone.
+    fn write(&self, lowest: usize, out: &mut [u16])
+        requires least_number { LeastNumber self.now.met self.now.twice self.now.count lowest }
+        requires room { self.now.count - self.now.twice ≤ length out.old }
+        ensures { Wrote self.now.met self.now.twice self.now.count lowest out.old out.new (self.now.count - self.now.twice) }
+    {
+        for k in 0..self.long() {
+            out[k] = self.met[self.place(lowest, self.long() - k)];
+        }
+    }
+}
+
+// For each operation the lowest with start 0 that has an edge to it. Where there is none it is the limit, so that `min` alone keeps the lowest.
+fn backs(order: &Order, starts: &[u16; OPERATIONS]) -> [u16; OPERATIONS]
+    ensures { Backed order.now.from.now order.now.to.now (Blank starts.now) result (length order.now.from.now) }
 {
     let mut back = [OPERATIONS as u16; OPERATIONS];
-    let mut e = 0;
-    while e < from.len() {
-        let source = from[e];
-        let target = to[e] as usize;
-        back[target] = lower(starts[source as usize], source, back[target]);
-        e += 1;
+    for (source, target) in order.from.iter().zip(order.to) {
+        let target = usize::from(*target);
+        if starts[usize::from(*source)] == 0 {
+            back[target] = back[target].min(*source);
+        }
     }
     back
 }
@@ -46,25 +86,14 @@ fn first_blank(starts: &[u16; OPERATIONS], n: usize) -> usize
     requires { n ≤ limit.operations }
     ensures { FirstBlank starts.now n result }
 {
-    let mut i = 0;
-    while i < n {
-        if starts[i] == 0 {
-            return i;
-        }
-        i += 1;
-    }
-    n
+    starts
+        .iter()
+        .take(n)
+        .position(|start| *start == 0)
+        .unwrap_or(n)
 }
 
-// What was met, how many, and the place of the one that came again.
-#[derive(Clone, Copy)]
-struct Walked {
-    met: [u16; OPERATIONS],
-    count: usize,
-    twice: usize,
-}
-
-// From the first along the row until one comes that was met before. It ends, since each turn takes one more place.
+// From the first along the row until one comes that was met before. No `for`, since where it ends is in the row: each turn takes one more place.
 fn walk(back: &[u16; OPERATIONS], first: usize) -> Walked
     requires { NeverLeaves back.now first }
     ensures { MetAgain back.now first result.met result.count result.twice }
@@ -77,69 +106,20 @@ fn walk(back: &[u16; OPERATIONS], first: usize) -> Walked
         met[count] = here as u16;
         count += 1;
         places[here] = count as u16;
-        here = back[here] as usize;
+        here = usize::from(back[here]);
     }
-    let twice = places[here] as usize - 1;
+    let twice = usize::from(places[here]) - 1;
     Walked { met, count, twice }
 }
 
-// The trail of document 01's rule. 0 in `starts` marks the kept operations.
+// Where the walk along the kept operations comes round. 0 in `starts` marks the kept.
 fn trail(order: &Order, starts: &[u16; OPERATIONS]) -> Walked
     requires kept_at { KeptAt (order_in order.now) starts.now }
     requires cyclic { Cyclic (order_in order.now) }
     ensures { Trailed (order_in order.now) result.met result.count result.twice }
 {
-    let back = backs(order.from, order.to, starts);
+    let back = backs(order, starts);
     walk(&back, first_blank(starts, order.weights.len()))
-}
-
-// Of two places, the one with the lesser number.
-fn lesser(met: &[u16; OPERATIONS], old: usize, new: usize) -> usize
-    requires { (old < limit.operations) × (new < limit.operations) }
-    ensures { Lesser met.now old new result }
-{
-    if met[new] < met[old] { new } else { old }
-}
-
-// The place of the lowest number that was met at `twice` or later.
-fn lowest(met: &[u16; OPERATIONS], twice: usize, count: usize) -> usize
-    requires { Span twice count }
-    ensures { LeastNumber met.now twice count result }
-{
-    let mut best = twice;
-    let mut k = twice + 1;
-    while k < count {
-        best = lesser(met, best, k);
-        k += 1;
-    }
-    best
-}
-
-// The place so many steps on from the lowest number's: after the last place comes `twice`.
-fn place(twice: usize, count: usize, lowest: usize, steps: usize) -> usize
-    requires { PartOfRound twice count lowest steps }
-    ensures { Turned twice count lowest steps result }
-{
-    let straight = lowest + steps;
-    if straight < count {
-        straight
-    } else {
-        straight - (count - twice)
-    }
-}
-
-// Writes the cycle from its lowest number on, in edge direction, which is against the way that was gone.
-fn write(met: &[u16; OPERATIONS], twice: usize, count: usize, lowest: usize, out: &mut [u16])
-    requires least_number { LeastNumber met.now twice count lowest }
-    requires count_le_operations { (count ≤ limit.operations) × (count - twice ≤ length out.old) }
-    ensures { Wrote met.now twice count lowest out.old out.new (count - twice) }
-{
-    let mut k = 0;
-    while k < count - twice {
-        let steps = count - twice - k;
-        out[k] = met[place(twice, count, lowest, steps)];
-        k += 1;
-    }
 }
 
 // Writes the cycle shown into the first entries of `out`, where 0 in `starts` marks the kept operations. Its length.
@@ -150,10 +130,6 @@ pub fn show(order: &Order, starts: &[u16; OPERATIONS], out: &mut [u16]) -> usize
     ensures { Shows (order_in order.now) out.old out.new result }
 {
     let walked = trail(order, starts);
-    let met = walked.met;
-    let count = walked.count;
-    let twice = walked.twice;
-    let begin = lowest(&met, twice, count);
-    write(&met, twice, count, begin, out);
-    count - twice
+    walked.write(walked.lowest(), out);
+    walked.long()
 }

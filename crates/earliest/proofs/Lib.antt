@@ -1,6 +1,5 @@
 mod Room
 mod Widening
-mod Later
 mod WalkingBack
 mod Sweep
 mod Rounds

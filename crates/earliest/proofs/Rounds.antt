@@ -7,35 +7,29 @@ use lib.ListN.{replicate, length-replicate}
 use Rattle.maths.specs.Rows.{blank}
 use Rattle.maths.specs.Count.{marks, marks_le, marks_lt, marks_none}
 use Rattle.model.specs.Limits as limit
-use Rattle.model.specs.Order.{Order, size, Closed}
+use Rattle.model.specs.Order.{Order, size}
 use Rattle.model.specs.Placing.{Placing}
-use Rattle.theory.specs.order.PlacingSteps.{part_none, part_whole}
-use Rattle.edge_links.specs.Linking.{Linked}
+use Rattle.theory.specs.order.PlacingSteps.{Part, part_none, part_whole}
 use Rattle.earliest.specs.Widths.{heaviest}
-use Rattle.earliest.specs.Round.{Known, Round}
-use Rattle.earliest.proofs.Sweep.{known_more}
+use Rattle.earliest.specs.Round.{Round}
 
--- the loop of `earliest`, before a round: what is placed is counted
-pub record RoundsSoFar (o : Order) (s links : List ℕ) (total : ℕ) : Type 0 where
-  pub known : Known o s links
+-- the loop of `earliest`, before a round: part is placed, and it is counted
+pub record RoundsSoFar (o : Order) (s : List ℕ) (total : ℕ) : Type 0 where
+  pub part : Part heaviest o s
   pub counts : total ≡ marks s (size o)
 
-module _ {o : Order} {links : List ℕ} where
+module _ {o : Order} where
   -- nothing is placed yet
-  pub rounds_none : Closed heaviest o → Linked o.to links → RoundsSoFar o (replicate limit.operations 0) links 0
-  rounds_none c linked = record {
-    known = record {
-      closed = c;
-      part = part_none (length-replicate {A = ℕ} limit.operations 0) (blank limit.operations);
-      linked = linked;
-    };
+  pub rounds_none : RoundsSoFar o (replicate limit.operations 0) 0
+  rounds_none = record {
+    part = part_none (length-replicate {A = ℕ} limit.operations 0) (blank limit.operations);
     counts = sym (marks_none (replicate limit.operations 0) (size o) (λ i l. blank limit.operations i));
   }
 
-  module _ {s₀ s : List ℕ} {total r : ℕ} (h : RoundsSoFar o s₀ links total) (k : Round o s₀ s r) where
+  module _ {s₀ s : List ℕ} {total r : ℕ} (h : RoundsSoFar o s₀ total) (k : Round o s₀ s r) where
     -- a round adds what it placed
-    pub rounds_step : RoundsSoFar o s links (total + r)
-    rounds_step = record { known = known_more h.known k.part; counts = omega (arith, h.counts, k.counts) }
+    pub rounds_step : RoundsSoFar o s (total + r)
+    rounds_step = record { part = k.part; counts = omega (arith, h.counts, k.counts) }
 
     -- no more are placed than there are
     pub rounds_few : total + r ≤ size o

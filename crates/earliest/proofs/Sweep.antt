@@ -2,21 +2,17 @@
 use mathlib.Core.Path.{◌≡◌, refl, sym, subst}
 use mathlib.Core.Bool.{Bool, true, false}
 use mathlib.Core.List.{List}
-use Prim.Native.Nat.{ℕ, ◌+◌, ◌≤◌, ◌<◌}
+use Prim.Native.Nat.{ℕ, ◌+◌, ◌-◌, ◌≤◌, ◌<◌}
 use native.Mathlib.Omega.{arith}
 use borrow.Author.Count.{below_more}
 use lib.ListN.{set}
 use Rattle.maths.specs.Rows.{at}
-use Rattle.maths.specs.Count.{marks, marks_le}
+use Rattle.maths.specs.Count.{marks}
 use Rattle.model.specs.Order.{Order, size, Closed}
 use Rattle.model.specs.Placing.{StartsAt, Waits}
 use Rattle.theory.specs.order.PlacingSteps.{Part, part_more, more_set}
 use Rattle.earliest.specs.Widths.{heaviest}
-use Rattle.earliest.specs.Round.{Known, Visit, Round, kth_of}
-
--- the links stay when more is placed
-pub known_more : {o : Order} {s₀ s links : List ℕ} → Known o s₀ links → Part heaviest o s → Known o s links
-known_more h p = record { closed = h.closed; part = p; linked = h.linked }
+use Rattle.earliest.specs.Round.{Visit, Round}
 
 module _ {o : Order} {s : List ℕ} {i : ℕ} where
   -- i is placed already, or waits
@@ -28,6 +24,11 @@ module _ {o : Order} {s : List ℕ} {i : ℕ} where
   visit_set c h l z d =
       let m = more_set c h l z d in
       record { part = part_more c h m; counts = m.counts; same = λ y. absurd (omega arith); stuck = λ y. absurd (omega arith) }
+
+-- which of n comes k-th: counted from the first one up, or from the last one down
+abbrev pub kth_of : Bool → ℕ → ℕ → ℕ
+kth_of true n k = k
+kth_of false n k = n - 1 - k
 
 -- counted from either end, the operation that comes k-th has k for its own turn
 kth_back : (up : Bool) (n k : ℕ) → k < n → kth_of up n (kth_of up n k) ≡ k
@@ -51,10 +52,10 @@ module _ {o : Order} {up : Bool} {s₀ : List ℕ} where
   pub sweep_none : Part heaviest o s₀ → Sweep o up s₀ s₀ 0 0
   sweep_none h = record { within = omega arith; part = h; counts = omega arith; stuck = λ z j l. absurd (omega arith) }
 
-  -- one more is visited
-  pub sweep_step : {s s' : List ℕ} {r q k : ℕ} → Sweep o up s₀ s r k → k < size o → Visit o (kth_of up (size o) k) s s' q
+  -- one more is visited, in its turn
+  pub sweep_step : {s s' : List ℕ} {r q k i : ℕ} → Sweep o up s₀ s r k → k < size o → i ≡ kth_of up (size o) k → Visit o i s s' q
       → Sweep o up s₀ s' (r + q) (k + 1)
-  sweep_step {s} {s'} {r} {q} {k} h l v = record {
+  sweep_step {s} {s'} {r} {q} {k} h l turn v = record {
     within = omega arith;
     part = v.part;
     counts = omega (arith, h.counts, v.counts);
@@ -63,7 +64,7 @@ module _ {o : Order} {up : Bool} {s₀ : List ℕ} where
         below_more (λ j. at s' (kth_of up (size o) j) ≡ 0 → Waits o s' (kth_of up (size o) j)) k
         (subst (λ (x : List ℕ). (j : ℕ) → j < k → at x (kth_of up (size o) j) ≡ 0 → Waits o x (kth_of up (size o) j)) (sym (v.same none))
         (h.stuck (omega arith)))
-        (v.stuck none);
+        (subst (λ (x : ℕ). at s' x ≡ 0 → Waits o s' x) turn (v.stuck none));
   }
 
   -- all are visited
@@ -75,7 +76,3 @@ module _ {o : Order} {up : Bool} {s₀ : List ℕ} where
         subst (λ (x : ℕ). at s x ≡ 0 → Waits o s x) (kth_back up (size o) i m)
         (h.stuck z (kth_of up (size o) i) (omega (arith, kth_inside up (size o) i m)));
   }
-
-  -- no more are placed than there are
-  pub sweep_few : {s : List ℕ} {r k : ℕ} → Sweep o up s₀ s r k → r ≤ size o
-  sweep_few {s} h = omega (arith, h.counts, marks_le s (size o))

@@ -1,17 +1,15 @@
 -- The walk of `first_step`: from the last edge that enters i back to the first. The sources passed are placed and over by the step, and none allows an earlier one.
-use mathlib.Core.Path.{◌≡◌, ◌∙◌}
+use mathlib.Core.Path.{◌≡◌, ap}
 use mathlib.Core.List.{List}
 use Prim.Native.Nat.{ℕ, ◌+◌, ◌≤◌, ◌<◌, max}
 use native.Mathlib.Omega.{arith}
 use Rattle.std.specs.Prelude.{Option, Some, None}
 use Rattle.maths.specs.Rows.{at}
 use Rattle.model.specs.Order.{Order, size, edge_count, weight, source, Closed}
-use Rattle.model.specs.Placing.{MayStart}
-use Rattle.theory.specs.order.PlacingSteps.{later, FirstStep}
+use Rattle.model.specs.Placing.{MayStart, StartsAt, Waits}
 use Rattle.edge_links.specs.Linking.{of_operation, of_edge, Linked, edge_of, link_of}
 use Rattle.edge_links.specs.WalkedBack.{WalkedBack, walked_back_as, walk_begins, walk_inside, walk_at, walk_falls, walk_step, walk_ends}
 use Rattle.earliest.specs.Widths.{heaviest}
-use Rattle.earliest.proofs.Later.{later_zero, later_placed, later_max}
 
 -- edge k leaves an operation that is placed, and over by the step
 pub record OverBy (o : Order) (s : List ℕ) (step k : ℕ) : Type 0 where
@@ -35,51 +33,37 @@ module _ {o : Order} {s links : List ℕ} {i : ℕ} (c : Closed heaviest o) (all
 
   module _ {step : ℕ} {edge : Option ℕ} (h : WalkingBack o s i step edge) where
     -- no edge is left to see
-    pub back_end : edge ≡ None → FirstStep o s i step
-    back_end none = record {
-      waits = λ y. absurd (omega (arith, h.positive));
-      starts = λ p.
-          let all_over = walk_ends h.passed none in
-          record {
-            ready = λ k l q. (all_over k (omega (arith, c.even)) q).placed;
-            may = record { from_one = p; after = λ k l q. (all_over k (omega (arith, c.even)) q).over };
-            least = h.least;
-          };
-    }
+    pub back_end : edge ≡ None → StartsAt o s i step
+    back_end none =
+        let all_over = walk_ends h.passed none in
+        record {
+          ready = λ k l q. (all_over k (omega (arith, c.even)) q).placed;
+          may = record { from_one = h.positive; after = λ k l q. (all_over k (omega (arith, c.even)) q).over };
+          least = h.least;
+        }
 
     module _ {e : ℕ} (here : edge ≡ Some e) where
       -- the edge to see is one of the order's
       pub back_inside : e < edge_count o
       back_inside = omega (arith, walk_inside h.passed here, c.even)
 
-      -- i waits after the edge: its source is not placed
-      pub back_waits : later step (at s (source o e)) (weight o (source o e)) ≡ 0 → FirstStep o s i 0
-      back_waits z = record {
-        waits = λ y.
-            record {
-              edge = e;
-              inside = back_inside;
-              enters = walk_at h.passed here;
-              unplaced = later_zero step (at s (source o e)) (weight o (source o e)) h.positive z;
-            };
-        starts = λ p. absurd (omega arith);
-      }
+      -- its source is not placed: i waits for it
+      pub back_waits : at s (source o e) ≡ 0 → Waits o s i
+      back_waits z = record { edge = e; inside = back_inside; enters = walk_at h.passed here; unplaced = z }
 
       module _ {next : Option ℕ} (before : next ≡ edge_of (of_edge links e)) where
         -- the walk goes back
         pub back_falls : link_of next < link_of edge
         back_falls = walk_falls h.passed here all before
 
-        -- i does not wait: the edge's source is placed, and the step is raised to where it is over
-        pub back_step : {v : ℕ} → v ≡ later step (at s (source o e)) (weight o (source o e)) → (v ≡ 0 → ⊥) → WalkingBack o s i v next
-        back_step {v} q y =
-            let start = at s (source o e) in
-            let w = weight o (source o e) in
-            let some : later step start w ≡ 0 → ⊥ = λ x. y (q ∙ x) in
-            let raised : v ≡ max step (start + w) = q ∙ later_max step start w some in
+        -- its source is placed: the step is raised to where it is over
+        pub back_step : {j v : ℕ} → j ≡ source o e → (at s j ≡ 0 → ⊥) → v ≡ max (at s j + weight o j) step → WalkingBack o s i v next
+        back_step leaves placed raised =
+            let start = ap (at s) leaves in
+            let weighs = ap (weight o) leaves in
             record {
-              positive = omega arith;
+              positive = omega (arith, h.positive);
               least = λ b x. omega (arith, h.least b x, x.after e back_inside (walk_at h.passed here));
               passed = walk_step (walked_back_as (λ k d. record { placed = d.placed; over = omega (arith, d.over) }) h.passed) here all before
-                  (record { placed = later_placed step start w some; over = omega arith });
+                  (record { placed = omega arith; over = omega arith });
             }

@@ -1,12 +1,13 @@
 -- Delays as weights and starts in 16 bits: the rows are the same lists of numbers, entry by entry, and every start fits.
-use mathlib.Core.Path.{◌≡◌, sym, ap, subst, ◌∙◌}
+use mathlib.Core.Path.{◌≡◌, sym, ◌∙◌}
 use mathlib.Core.List.{List}
-use Prim.Native.Nat.{ℕ, ◌+◌, ◌-◌, ◌≤◌, ◌<◌}
+use Prim.Native.Nat.{ℕ, ◌+◌, ◌≤◌, ◌<◌}
 use native.Mathlib.Omega.{arith}
 use borrow.Author.Count.{below_none, below_more}
 use lib.ListN.{length, set, take, replicate, length-set, length-replicate}
 use lib.Seq.{get_or-set_same, get_or-set_other}
-use Rattle.maths.specs.Rows.{at, blank, over, over_long, over_front, over_is, same_row, take_at, take_long}
+use Rattle.std.proofs.Math.Seq.{take-append_seam}
+use Rattle.maths.specs.Rows.{at, blank, over, over_is, same_row}
 use Rattle.model.specs.Limits as limit
 use Rattle.model.specs.Order.{ordered, Closed}
 use Rattle.model.specs.Placing.{Placing}
@@ -52,28 +53,17 @@ module _ {source : List ℕ} where
 
 module _ {delays from to weights : List ℕ} (c : Closed limit.longest (ordered delays from to)) (w : weights ≡ over delays (replicate limit.operations 0)) where
   -- the front of the row of weights is the delays
-  front : take (length delays - 0) weights ≡ delays
-  front =
-      let n : length delays - 0 ≡ length delays = omega arith in
-      let zeros = length-replicate {A = ℕ} limit.operations 0 in
-      let room : length delays ≤ length (replicate {A = ℕ} limit.operations 0) = omega (arith, c.few) in
-      let wide : length weights ≡ length (replicate {A = ℕ} limit.operations 0) = ap length w ∙ over_long delays (replicate limit.operations 0) room in
-      let long = take_long (length delays - 0) weights (omega arith) ∙ n in
-      same_row (take (length delays - 0) weights) delays long
-      (λ i l.
-      take_at (length delays - 0) weights i (omega arith)
-      ∙ ap (λ (row : List ℕ). at row i) w
-      ∙ over_front delays (replicate limit.operations 0) room i (omega arith))
+  front : take (length delays) weights ≡ delays
+  front = rw w (take-append_seam delays _)
 
   -- so the order of weights is closed, up to the heaviest
-  pub weights_closed : Closed heaviest (ordered (take (length delays - 0) weights) from to)
-  weights_closed =
-      subst (λ (row : List ℕ). Closed heaviest (ordered row from to)) (sym front) (closed_heavier (ordered delays from to) (omega arith) c)
+  pub weights_closed : Closed heaviest (ordered (take (length delays) weights) from to)
+  weights_closed = rw front (closed_heavier (ordered delays from to) (omega arith) c)
 
-  module _ {starts : List ℕ} {placed : ℕ} (p : Placing (ordered (take (length delays - 0) weights) from to) starts placed) where
+  module _ {starts : List ℕ} {placed : ℕ} (p : Placing (ordered (take (length delays) weights) from to) starts placed) where
     -- its placing is that of the delays
     pub delays_placed : Placing (ordered delays from to) starts placed
-    delays_placed = subst (λ (row : List ℕ). Placing (ordered row from to) starts placed) front p
+    delays_placed = rw front at p
 
     -- and no start is above what the longest delays add up to
     pub starts_low : (i : ℕ) → at starts i ≤ heaviest
@@ -81,4 +71,4 @@ module _ {delays from to weights : List ℕ} (c : Closed limit.longest (ordered 
 
     -- so in 16 bits they are the same placing
     pub delays_narrowed : {row : List ℕ} → row ≡ starts → Placing (ordered delays from to) row placed
-    delays_narrowed e = subst (λ (row : List ℕ). Placing (ordered delays from to) row placed) (sym e) delays_placed
+    delays_narrowed e = rw e delays_placed

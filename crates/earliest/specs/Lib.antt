@@ -1,3 +1,4 @@
 pub mod Widths
 pub mod Round
+pub mod Linked
 pub mod OneAnswer

@@ -1,18 +1,11 @@
 -- One round: each operation is visited, and placed at once if it waits for none.
-use Rattle.std.specs.Prelude.{◌≡◌, Bool, true, false, List, ℕ, ◌+◌, ◌-◌, ◌<◌}
+use Rattle.std.specs.Prelude.{◌≡◌, List, ℕ, ◌+◌, ◌<◌}
 use Rattle.maths.specs.Rows.{at}
 use Rattle.maths.specs.Count.{marks}
-use Rattle.model.specs.Order.{Order, size, Closed}
+use Rattle.model.specs.Order.{Order, size}
 use Rattle.model.specs.Placing.{Waits}
 use Rattle.theory.specs.order.PlacingSteps.{Part}
-use Rattle.edge_links.specs.Linking.{Linked}
 use Rattle.earliest.specs.Widths.{heaviest}
-
--- what a visit starts from: part of the order is placed, and its edges are linked by their targets
-pub record Known (o : Order) (s : List ℕ) (links : List ℕ) : Type 0 where
-  pub closed : Closed heaviest o
-  pub part : Part heaviest o s
-  pub linked : Linked o.to links
 
 -- a visit of i placed r more; where it placed none nothing changed, and i waits if it is left
 pub record Visit (o : Order) (i : ℕ) (s₀ s : List ℕ) (r : ℕ) : Type 0 where
@@ -26,8 +19,3 @@ pub record Round (o : Order) (s₀ s : List ℕ) (r : ℕ) : Type 0 where
   pub part : Part heaviest o s
   pub counts : marks s (size o) ≡ marks s₀ (size o) + r
   pub stuck : r ≡ 0 → (i : ℕ) → i < size o → at s i ≡ 0 → Waits o s i
-
--- which of n comes k-th: counted from the first one up, or from the last one down
-abbrev pub kth_of : Bool → ℕ → ℕ → ℕ
-kth_of true n k = k
-kth_of false n k = n - 1 - k

@@ -1,123 +1,94 @@
 // Earliest starts of an order: as many operations are placed as can be, each at the first step at which it may start.
 #![tactic(auto)]
 
-ghost use Rattle.std.specs.Prelude.{◌≡◌, ℕ, ◌+◌, ◌*◌, ◌≤◌, ◌<◌, length, replicate};
+ghost use Rattle.std.specs.Prelude.{◌≡◌, ℕ, ◌≤◌, ◌<◌, length, replicate, MatchOption};
+ghost use Rattle.std.specs.Int.{from_bool};
 ghost use Rattle.maths.specs.Rows.{at, over};
 ghost use Rattle.model.specs.Limits as limit;
 ghost use Rattle.model.specs.Order.{Closed, ordered};
-ghost use Rattle.model.specs.Placing.{Placing};
+ghost use Rattle.model.specs.Placing.{Placing, StartsAt, Waits};
 ghost use Rattle.model.specs.Lent.{order_in};
-ghost use Rattle.theory.specs.order.PlacingSteps.{later, FirstStep};
+ghost use Rattle.theory.specs.order.PlacingSteps.{Part};
+ghost use Rattle.edge_links.specs.Linking.{Linked};
 ghost use Rattle.earliest.specs.Widths.{heaviest};
-ghost use Rattle.earliest.specs.Round.{Known, Visit, Round, kth_of};
+ghost use Rattle.earliest.specs.Round.{Visit, Round};
 
 use edge_links::Links;
 use model::limits::OPERATIONS;
 use model::order::Order;
 
-// The first step that is left after one edge more, whose source has this start and weight: 0 once an operation waits.
-fn after_edge(step: u32, start: u32, weight: u16) -> u32
-    requires { start ≤ 1 + heaviest * limit.operations }
-    ensures { result ≡ later step start weight }
-{
-    if step == 0 {
-        return 0;
-    }
-    if start == 0 {
-        return 0;
-    }
-    let end = start + weight as u32;
-    if step < end { end } else { step }
+// An order whose edges are linked by their targets: those that enter an operation are found from the last to the first.
+#[derive(Clone, Copy)]
+struct LinkedOrder<'a> {
+    weights: &'a [u16],
+    from: &'a [u16],
+    to: &'a [u16],
+    links: &'a Links,
+    ghost closed: { Closed heaviest (ordered weights.now from.now to.now) },
+    ghost linked: { Linked to.now links.now.row },
 }
 
-// The first step at which i may start, 0 where it waits: the links lead from the last edge that enters it back to the first.
-fn first_step(
-    weights: &[u16],
-    from: &[u16],
-    to: &[u16],
-    links: &Links,
-    i: usize,
-    starts: &[u32; OPERATIONS],
-) -> u32
-    requires known { Known (ordered weights.now from.now to.now) starts.now links.now.row }
-    requires i_in_bounds { i < length weights.now }
-    ensures { FirstStep (ordered weights.now from.now to.now) starts.now i result }
-{
-    let mut step = 1;
-    let mut edge = links.last(i);
-    while let Some(e) = edge {
-        let source = from[e] as usize;
-        step = after_edge(step, starts[source], weights[source]);
-        if step == 0 {
-            return 0;
+impl LinkedOrder<'_> {
+    ghost use Rattle.earliest.specs.Linked.{order_of};
+
+    // The first step at which i may start: 1, or where the last of those before it is over. None where one of them has no start, as i waits for it.
+    fn first_step(&self, i: usize, starts: &[u32; OPERATIONS]) -> Option<u32>
+        requires part { Part heaviest (order_of self.now) starts.now }
+        requires i_in_bounds { i < length self.now.weights.now }
+        ensures { MatchOption result (Waits (order_of self.now) starts.now i) (λ step. StartsAt (order_of self.now) starts.now i step) }
+    {
+        let mut step = 1;
+        let mut edge = self.links.last(i);
+        while let Some(e) = edge {
+            let source = usize::from(self.from[e]);
+            let start = starts[source];
+            if start == 0 {
+                return None;
+            }
+            let end = start + u32::from(self.weights[source]);
+            step = end.max(step);
+            edge = self.links.before(e);
         }
-        edge = links.before(e);
+        Some(step)
     }
-    step
-}
 
-// Places i if it has no start and waits for none. How many it placed: 0 or 1.
-fn visit(
-    weights: &[u16],
-    from: &[u16],
-    to: &[u16],
-    links: &Links,
-    i: usize,
-    starts: &mut [u32; OPERATIONS],
-) -> usize
-    requires known { Known (ordered weights.now from.now to.now) starts.old links.now.row }
-    requires i_in_bounds { i < length weights.now }
-    ensures { Visit (ordered weights.now from.now to.now) i starts.old starts.new result }
-{
-    if starts[i] != 0 {
-        return 0;
+    // Places i if it has no start and waits for none. Whether it did.
+    fn visit(&self, i: usize, starts: &mut [u32; OPERATIONS]) -> bool
+        requires part { Part heaviest (order_of self.now) starts.old }
+        requires i_in_bounds { i < length self.now.weights.now }
+        ensures { Visit (order_of self.now) i starts.old starts.new (from_bool result) }
+    {
+        if starts[i] != 0 {
+            return false;
+        }
+        let Some(step) = self.first_step(i, starts) else {
+            return false;
+        };
+        starts[i] = step;
+        true
     }
-    let first = first_step(weights, from, to, links, i, starts);
-    if first == 0 {
-        return 0;
-    }
-    starts[i] = first;
-    1
-}
 
-// The operation that comes k-th of n: counted from the first one up, or from the last one down.
-fn kth(k: usize, n: usize, up: bool) -> usize
-    requires { k < n }
-    ensures { result ≡ kth_of up n k }
-{
-    if up { k } else { n - 1 - k }
-}
-
-// Visits each operation once, upward or downward; what is placed is seen by those after it. How many it placed.
-fn round(
-    weights: &[u16],
-    from: &[u16],
-    to: &[u16],
-    links: &Links,
-    up: bool,
-    starts: &mut [u32; OPERATIONS],
-) -> usize
-    requires { Known (ordered weights.now from.now to.now) starts.old links.now.row }
-    ensures { Round (ordered weights.now from.now to.now) starts.old starts.new result }
-{
-    let mut placed = 0;
-    let mut k = 0;
-    while k < weights.len() {
-        let i = kth(k, weights.len(), up);
-        placed += visit(weights, from, to, links, i, starts);
-        k += 1;
+    // Visits each operation once, upward or downward; what is placed is seen by those after it. How many it placed.
+    fn round(&self, up: bool, starts: &mut [u32; OPERATIONS]) -> usize
+        requires { Part heaviest (order_of self.now) starts.old }
+        ensures { Round (order_of self.now) starts.old starts.new result }
+    {
+        let n = self.weights.len();
+        let mut placed = 0;
+        for k in 0..n {
+            let i = if up { k } else { n - 1 - k };
+            placed += usize::from(self.visit(i, starts));
+        }
+        placed
     }
-    placed
 }
 
 // Whether the first edge leads upward: the first round goes its way, as most graphs are numbered one way. The placing is the same either way.
-fn rises(from: &[u16], to: &[u16]) -> bool
-    requires { length to.now ≡ length from.now }
-{
-    if from.len() == 0 {
-        return true;
+fn rises(from: &[u16], to: &[u16]) -> bool {
+    match (from, to) {
+        ([source, ..], [target, ..]) => source < target,
+        _ => true,
     }
-    from[0] < to[0]
 }
 
 // Rounds up and down until all are placed or one places none: what is left has start 0, and waits for another that is left. How many are placed.
@@ -127,20 +98,22 @@ pub fn earliest(weights: &[u16], from: &[u16], to: &[u16], starts: &mut [u32; OP
 {
     *starts = [0u32; OPERATIONS];
     let links = edge_links::link(to);
+    let order = LinkedOrder {
+        weights,
+        from,
+        to,
+        links: &links,
+    };
     let mut up = rises(from, to);
     let mut total = 0;
     loop {
-        let placed = round(weights, from, to, &links, up, starts);
+        let placed = order.round(up, starts);
         total += placed;
-        if placed == 0 {
-            break;
-        }
-        if total == weights.len() {
-            break;
+        if placed == 0 || total == weights.len() {
+            return total;
         }
         up = !up;
     }
-    total
 }
 
 // The delays as weights, and zeros after them.
@@ -149,25 +122,20 @@ fn widened(delays: &[u8]) -> [u16; OPERATIONS]
     ensures { result ≡ over delays.now (replicate limit.operations 0) }
 {
     let mut row = [0u16; OPERATIONS];
-    let mut i = 0;
-    while i < delays.len() {
-        row[i] = delays[i] as u16;
-        i += 1;
+    for (i, delay) in delays.iter().enumerate() {
+        row[i] = u16::from(*delay);
     }
     row
 }
 
-// The same starts in 16 bits, where each fits. The row is read as a slice, since a slice tells its length.
+// The same starts in 16 bits, where each fits.
 fn narrowed(starts: &[u32; OPERATIONS]) -> [u16; OPERATIONS]
     requires { (i : ℕ) → at starts.now i ≤ heaviest }
     ensures { result ≡ starts.now }
 {
-    let entries: &[u32] = starts;
     let mut row = [0u16; OPERATIONS];
-    let mut i = 0;
-    while i < OPERATIONS {
-        row[i] = entries[i] as u16;
-        i += 1;
+    for (i, start) in starts.iter().enumerate() {
+        row[i] = *start as u16;
     }
     row
 }
@@ -179,7 +147,7 @@ pub fn by_delays(order: &Order, starts: &mut [u16; OPERATIONS]) -> usize
     let n = order.weights.len();
     let weights = widened(order.weights);
     let mut wide = [0u32; OPERATIONS];
-    let placed = earliest(&weights[0..n], order.from, order.to, &mut wide);
+    let placed = earliest(&weights[..n], order.from, order.to, &mut wide);
     *starts = narrowed(&wide);
     placed
 }

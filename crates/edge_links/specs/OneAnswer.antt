@@ -4,6 +4,7 @@ use Rattle.std.proofs.Common.{sym, ap, ◌∙◌, ⊎_elim, arith}
 use Rattle.maths.specs.Cases.{lt_or_le}
 use Rattle.maths.specs.Rows.{at, same_row}
 use Rattle.model.specs.Limits as limit
+use Rattle.edge_links.specs.declared.Links.{Links}
 use Rattle.edge_links.specs.Linking.{of_edge, LastAt, Linked}
 
 -- no link lies past another: the edge that it leads to would be a later one
@@ -35,3 +36,7 @@ module _ {ends a b : List ℕ} (x : Linked ends a) (y : Linked ends b) where
 -- of `link`
 pub link_one : (ends a b : List ℕ) → Linked ends a → Linked ends b → a ≡ b
 link_one ends a b x y = same_row a b (x.long ∙ sym y.long) (λ k l. entry_one x y k)
+
+-- the same of the whole answer, which is nothing but its row
+pub links_one : (ends : List ℕ) (a b : Links) → Linked ends a.row → Linked ends b.row → a ≡ b
+links_one ends a b x y = ap (λ (row : List ℕ). let l : Links = record { row = row } in l) (link_one ends a.row b.row x y)

@@ -1,5 +1,3 @@
 pub mod Reading
-pub mod Asking
-pub mod Replying
+pub mod Lending
 pub mod Dispatching
-pub mod Laying

@@ -1,41 +1,32 @@
--- A row is read entry by entry: those passed are what the bytes say.
-use mathlib.Core.Path.{◌≡◌, sym, ◌∙◌}
-use mathlib.Core.List.{List}
-use Prim.Native.Nat.{ℕ, ◌+◌, ◌≤◌, ◌<◌}
-use native.Mathlib.Omega.{arith}
-use borrow.Author.Count.{below_none, below_more}
-use lib.ListN.{length, take, set, length-set}
-use lib.Seq.{get_or-set_same, get_or-set_other}
-use Rattle.maths.specs.Rows.{at, tabulate, tabulate_at, tabulate_long, take_at, take_long, same_row}
+-- A row that was read entry by entry is the one that the bytes hold.
+use Rattle.std.proofs.Common.{◌≡◌, List, ℕ, ◌+◌, ◌*◌, ◌<◌, ◌++◌, length, take, get_or, sym, ap, ◌∙◌, arith}
+use lib.Seq.{take_at}
+use Rattle.std.proofs.lemmas.Grind.{common_steps}
+use Rattle.maths.specs.Rows.{at, tabulate, tabulate_at, tabulate_long, same_row}
+use Rattle.engine.specs.Frame.{two, four, part, words_in, words_at}
 
--- the first i entries are read
-pub record Reading (f : ℕ → ℕ) (n long : ℕ) (row : List ℕ) (i : ℕ) : Type 0 where
-  pub within : i ≤ n
-  pub kept : length row ≡ long
-  pub front : (k : ℕ) → k < i → at row k ≡ f k
+-- an entry of a part stands in the whole
+at_part : (b : List ℕ) (i n k j : ℕ) → k < n → j ≡ i + k → at (part b i n) k ≡ at b j
+at_part b i n k j l e = grind (arith, common_steps)
 
--- at the start nothing is
-pub reading_none : {f : ℕ → ℕ} {n long : ℕ} {row : List ℕ} → length row ≡ long → Reading f n long row 0
-reading_none {f} {row = row} h = record { within = omega arith; kept = h; front = below_none (λ k. at row k ≡ f k) }
+-- so does a number in two bytes
+two_part : (b : List ℕ) (i n k : ℕ) → k < n → two (part b i (2 * n)) (2 * k) ≡ two b (i + 2 * k)
+two_part b i n k l =
+    let low = at_part b i (2 * n) (2 * k) (i + 2 * k) (omega arith) (omega arith) in
+    let high = at_part b i (2 * n) (2 * k + 1) (i + 2 * k + 1) (omega arith) (omega arith) in
+    omega arith
 
--- one entry more is
-pub reading_step : {f : ℕ → ℕ} {n long : ℕ} {row : List ℕ} {i x : ℕ} → Reading f n long row i → i < n → n ≤ long → x ≡ f i
-    → Reading f n long (set row i x) (i + 1)
-reading_step {f} {n} {long} {row} {i} {x} h l room e = record {
-  within = omega arith;
-  kept = length-set row i x ∙ h.kept;
-  front = below_more (λ k. at (set row i x) k ≡ f k) i
-      (λ k m. get_or-set_other row i k x 0 (omega arith) ∙ h.front k m)
-      (get_or-set_same row i x 0 (omega (arith, h.kept)) ∙ e);
-}
-
--- all n are
-pub reading_end : {f : ℕ → ℕ} {n long : ℕ} {row : List ℕ} {i : ℕ} → Reading f n long row i → n ≤ i → n ≤ long → take n row ≡ tabulate f n
-reading_end {f} {n} {long} {row} {i} h e room =
-    let some = take_long n row (omega (arith, h.kept)) in
-    let all = tabulate_long f n in
-    same_row (take n row) (tabulate f n) (some ∙ sym all)
+-- the entries that were read, in front of what stood behind them, are the row in the bytes
+pub read_is : (b entries items rest : List ℕ) (begin start len : ℕ) → entries ≡ part b begin (2 * len) → begin ≡ start + 4 → len ≡ four b start
+    → length items ≡ len → ((k : ℕ) → k < len → get_or items k 0 ≡ two entries (2 * k)) → take len (items ++ rest) ≡ words_at b start
+read_is b entries items rest begin start len e i n long each =
+    let row : ℕ → ℕ = λ k. two b (begin + 2 * k) in
+    take_at items rest len long
+    ∙ same_row items (tabulate row len) (long ∙ sym (tabulate_long row len))
     (λ k l.
-    take_at n row k (omega arith)
-    ∙ h.front k (omega (arith, h.within))
-    ∙ sym (tabulate_at f n k (omega arith)))
+    each k (omega arith)
+    ∙ ap (λ (x : List ℕ). two x (2 * k)) e
+    ∙ two_part b begin len k (omega arith)
+    ∙ sym (tabulate_at row len k (omega arith)))
+    ∙ ap (λ (x : ℕ). words_in b x len) i
+    ∙ ap (words_in b (start + 4)) n

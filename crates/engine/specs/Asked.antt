@@ -1,7 +1,7 @@
 -- What is replied to each question: what the face says of the numbers and rows in the question's bytes.
-use Rattle.std.specs.Prelude.{◌≡◌, List, [], ◌∷◌, ℕ, ◌+◌, ◌*◌, ◌≤◌, length, take}
+use Rattle.std.specs.Prelude.{◌≡◌, List, [], ◌∷◌, ℕ, ◌+◌, ◌≤◌, length, take, Result, IfOk, Some, None}
 use Rattle.std.proofs.Math.Option.{none, some}
-use Rattle.model.specs.Graph.{Graph}
+use Rattle.model.specs.Graph.{Graph, lent}
 use Rattle.model.specs.Answers.{AsapAnswer, AlapAnswer, MobilityAnswer}
 use Rattle.model.specs.Scheduling.{ListAnswer}
 use Rattle.model.specs.Verdicts.{Checked, PeakAnswer}
@@ -17,17 +17,12 @@ use Rattle.pedal.specs.declared.Advanced.{Advanced}
 use Rattle.pedal.specs.declared.Part.{Part}
 use Rattle.engine.specs.Frame.{longest, four, past_bytes, past_words, bytes_at, words_at}
 use Rattle.engine.specs.declared.reply.Reply.{Reply}
+use Rattle.engine.specs.declared.fault.Fault.{Fault}
+use Rattle.engine.specs.declared.graph.Graph as lent_rows
 
--- the reply has room for its numbers, and the written row lies within the question's bytes
-pub record Fits (b : List ℕ) (r : Reply) : Type 0 where
-  pub few : r.count ≤ 6
-  pub inside : r.at + 2 * r.len ≤ length b
-  pub short : r.len ≤ longest
-
--- nothing was asked, for a fault in the framing
-pub record Unasked (b : List ℕ) (r : Reply) : Type 0 where
-  pub fits : Fits b r
-  pub never : r.kind ≡ 0 → ⊥
+-- the rows that are lent for a graph
+abbrev pub graph_of : lent_rows.Graph → Graph
+graph_of g = lent g.delays.now g.types.now g.kinds g.from.now g.to.now
 
 -- the reply's numbers are those of an answer that the face gives
 pub record Says {R : Type 0} (Face : R → Type 0) (numbers : R → List ℕ) (r : Reply) : Type 0 where
@@ -38,24 +33,22 @@ pub record Says {R : Type 0} (Face : R → Type 0) (numbers : R → List ℕ) (r
 -- a question that writes a row, the last one, which begins at `last`: the bytes end with it, and it is afterwards what the face makes of it
 pub record Wrote {R : Type 0} (b : List ℕ) (last : ℕ) (Face : List ℕ → R → Type 0) (numbers : R → List ℕ) (r : Reply) (row : List ℕ) : Type 0 where
   pub whole : past_words b last ≡ length b
-  pub at : r.at ≡ last + 4
-  pub len : r.len ≡ four b last
-  pub says : Says (Face (take r.len row)) numbers r
+  pub short : four b last ≤ longest
+  pub lies : r.row ≡ Some (record { at = last + 4; len = four b last })
+  pub says : Says (Face (take (four b last) row)) numbers r
 
 -- a question that writes no row; its last one begins at `last`
 pub record Read {R : Type 0} (b : List ℕ) (last : ℕ) (Face : R → Type 0) (numbers : R → List ℕ) (r : Reply) : Type 0 where
   pub whole : past_words b last ≡ length b
-  pub none : r.len ≡ 0
+  pub none_lies : r.row ≡ None
   pub says : Says Face numbers r
 
--- the reply to a question that writes a row, and to one that does not
-pub record RowReply {R : Type 0} (b : List ℕ) (last : ℕ) (Face : List ℕ → R → Type 0) (numbers : R → List ℕ) (r : Reply) (row : List ℕ) : Type 0 where
-  pub fits : Fits b r
-  pub asked : r.kind ≡ 0 → Wrote b last Face numbers r row
+-- the reply to a question that writes a row, and to one that does not; a fault says that nothing was asked
+abbrev pub RowReply : {R : Type 0} → List ℕ → ℕ → (List ℕ → R → Type 0) → (R → List ℕ) → Result Reply Fault → List ℕ → Type 0
+RowReply b last Face numbers r row = IfOk r (λ p. Wrote b last Face numbers p row)
 
-pub record PlainReply {R : Type 0} (b : List ℕ) (last : ℕ) (Face : R → Type 0) (numbers : R → List ℕ) (r : Reply) : Type 0 where
-  pub fits : Fits b r
-  pub asked : r.kind ≡ 0 → Read b last Face numbers r
+abbrev pub PlainReply : {R : Type 0} → List ℕ → ℕ → (R → Type 0) → (R → List ℕ) → Result Reply Fault → Type 0
+PlainReply b last Face numbers r = IfOk r (Read b last Face numbers)
 
 -- each answer's numbers, in the order of the C struct
 abbrev pub filled_numbers : Filled → List ℕ
@@ -80,38 +73,38 @@ abbrev pub part_numbers : Part → List ℕ
 part_numbers p = p.refusal ∷ (p.start ∷ (p.length ∷ []))
 
 -- earliest starts; the question's own rows begin at `rest`
-abbrev pub AsapReply : Graph → List ℕ → ℕ → Reply → List ℕ → Type 0
+abbrev pub AsapReply : Graph → List ℕ → ℕ → Result Reply Fault → List ℕ → Type 0
 AsapReply g b rest = RowReply b rest (λ after. HandsOn (λ a. AsapAnswer g (words_at b rest) a after) filled_of) filled_numbers
 
 -- latest starts
-abbrev pub AlapReply : Graph → ℕ → List ℕ → ℕ → Reply → List ℕ → Type 0
+abbrev pub AlapReply : Graph → ℕ → List ℕ → ℕ → Result Reply Fault → List ℕ → Type 0
 AlapReply g bound b rest = RowReply b rest (λ after. HandsOn (λ a. AlapAnswer g bound (words_at b rest) a after) filled_of) filled_numbers
 
 -- mobility
-abbrev pub MobilityReply : Graph → ℕ → List ℕ → ℕ → Reply → List ℕ → Type 0
+abbrev pub MobilityReply : Graph → ℕ → List ℕ → ℕ → Result Reply Fault → List ℕ → Type 0
 MobilityReply g bound b rest = RowReply b rest (λ after. HandsOn (λ a. MobilityAnswer g bound (words_at b rest) a after) filled_of) filled_numbers
 
 -- the list schedule: units, then the output
-abbrev pub ListReply : Graph → List ℕ → ℕ → Reply → List ℕ → Type 0
+abbrev pub ListReply : Graph → List ℕ → ℕ → Result Reply Fault → List ℕ → Type 0
 ListReply g b rest =
     RowReply b (past_bytes b rest) (λ after. HandsOn (λ a. ListAnswer g (bytes_at b rest) (words_at b (past_bytes b rest)) a after) scheduled_of) scheduled_numbers
 
 -- the advance: units, then the state's starts
-abbrev pub AdvanceReply : Graph → ℕ → List ℕ → ℕ → Reply → List ℕ → Type 0
+abbrev pub AdvanceReply : Graph → ℕ → List ℕ → ℕ → Result Reply Fault → List ℕ → Type 0
 AdvanceReply g step b rest =
     RowReply b (past_bytes b rest) (λ after m. AdvanceSaid g (bytes_at b rest) (words_at b (past_bytes b rest)) step m after) advanced_numbers
 
 -- the checker: units, then starts
-abbrev pub CheckReply : Graph → ℕ → List ℕ → ℕ → Reply → Type 0
+abbrev pub CheckReply : Graph → ℕ → List ℕ → ℕ → Result Reply Fault → Type 0
 CheckReply g bound b rest =
-    PlainReply b (past_bytes b rest) (HandsOn (Checked g (bytes_at b rest) bound (words_at b (past_bytes b rest))) (λ v. verdict_of v.finding)) verdict_numbers
+    PlainReply b (past_bytes b rest) (HandsOn (Checked g (bytes_at b rest) bound (words_at b (past_bytes b rest))) verdict_of) verdict_numbers
 
 -- peak use: starts
-abbrev pub PeakReply : Graph → List ℕ → ℕ → Reply → Type 0
+abbrev pub PeakReply : Graph → List ℕ → ℕ → Result Reply Fault → Type 0
 PeakReply g b rest = PlainReply b rest (HandsOn (PeakAnswer g (words_at b rest)) peaks_of) peaks_numbers
 
 -- the first schedule: units, then the output
-abbrev pub FirstReply : Graph → ℕ → List ℕ → ℕ → Reply → List ℕ → Type 0
+abbrev pub FirstReply : Graph → ℕ → List ℕ → ℕ → Result Reply Fault → List ℕ → Type 0
 FirstReply g bound b rest =
     RowReply b (past_bytes b rest) (λ after. HandsOn (λ a. ListerAnswer g (bytes_at b rest) bound none (words_at b (past_bytes b rest)) a after) listed_of) listed_numbers
 
@@ -120,7 +113,7 @@ abbrev pub past_after : List ℕ → ℕ → ℕ
 past_after b rest = past_words b (past_bytes b rest)
 
 -- the schedule after a row: units, the row, then the output
-abbrev pub NextReply : Graph → ℕ → List ℕ → ℕ → Reply → List ℕ → Type 0
+abbrev pub NextReply : Graph → ℕ → List ℕ → ℕ → Result Reply Fault → List ℕ → Type 0
 NextReply g bound b rest =
     RowReply b (past_after b rest)
     (λ after. HandsOn (λ a. ListerAnswer g (bytes_at b rest) bound (some (words_at b (past_bytes b rest))) (words_at b (past_after b rest)) a after) listed_of) listed_numbers
@@ -134,5 +127,5 @@ pub record Tables (a b : List ℕ) (channel first count : ℕ) (p : Part) : Type
   pub said : PartSaid one other channel first count p
 
 -- a view: channel A's table, then B's
-abbrev pub ViewReply : ℕ → ℕ → ℕ → List ℕ → ℕ → Reply → Type 0
+abbrev pub ViewReply : ℕ → ℕ → ℕ → List ℕ → ℕ → Result Reply Fault → Type 0
 ViewReply channel first count b rest = PlainReply b (past_words b rest) (Tables (words_at b rest) (words_at b (past_words b rest)) channel first count) part_numbers

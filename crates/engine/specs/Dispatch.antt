@@ -1,41 +1,35 @@
--- Which question has which number, and what is replied to it.
-use Rattle.std.specs.Prelude.{List, ◌≡◌, ℕ, ◌≤◌}
+-- What is replied to each question, and which number it has.
+use Rattle.std.specs.Prelude.{List, ◌≡◌, ℕ, ◌<◌, ◌⊎◌, Result, Err}
 use Rattle.model.specs.Graph.{Graph}
 use Rattle.engine.specs.Frame.{eight, rest_from, graph_in}
-use Rattle.engine.specs.Asked.{Unasked, AsapReply, AlapReply, MobilityReply, ListReply, AdvanceReply, CheckReply, PeakReply, FirstReply, NextReply, ViewReply}
+use Rattle.engine.specs.Numbers.{number_of, numbers_of}
+use Rattle.engine.specs.Asked.{AsapReply, AlapReply, MobilityReply, ListReply, AdvanceReply, CheckReply, PeakReply, FirstReply, NextReply, ViewReply}
 use Rattle.engine.specs.declared.reply.Reply.{Reply}
+use Rattle.engine.specs.declared.fault.Fault.{Fault}
+use Rattle.engine.specs.declared.fault.Fault.TheVariants.{Unknown}
+use Rattle.engine.specs.declared.question.About as about
+use Rattle.engine.specs.declared.question.About.TheVariants as abouts
+use Rattle.engine.specs.declared.question.Question as question
+use Rattle.engine.specs.declared.question.Question.TheVariants as questions
 
--- the reply to each question about a graph, by the question's number; `second` is its bound or step, where it takes one, and its own rows
--- begin at `rest`. Where no question has the number, nothing was asked.
-pub data GraphReply (g : Graph) (second : ℕ) (b : List ℕ) (rest : ℕ) (r : Reply) (row : List ℕ) : ℕ → Type 0 where
-  asap : AsapReply g b rest r row → GraphReply g second b rest r row 1
-  alap : AlapReply g second b rest r row → GraphReply g second b rest r row 2
-  mobility : MobilityReply g second b rest r row → GraphReply g second b rest r row 3
-  list : ListReply g b rest r row → GraphReply g second b rest r row 4
-  advance : AdvanceReply g second b rest r row → GraphReply g second b rest r row 5
-  check : CheckReply g second b rest r → GraphReply g second b rest r row 6
-  peak : PeakReply g b rest r → GraphReply g second b rest r row 7
-  first : FirstReply g second b rest r row → GraphReply g second b rest r row 8
-  next : NextReply g second b rest r row → GraphReply g second b rest r row 9
-  unasked : {question : ℕ} → Unasked b r → GraphReply g second b rest r row question
+-- the reply to each question about a graph; `second` is its bound or step, where it takes one, and its own rows begin at `rest`
+abbrev pub GraphReply : Graph → ℕ → List ℕ → ℕ → Result Reply Fault → List ℕ → about.About → Type 0
+GraphReply g second b rest r row abouts.Asap = AsapReply g b rest r row
+GraphReply g second b rest r row abouts.Alap = AlapReply g second b rest r row
+GraphReply g second b rest r row abouts.Mobility = MobilityReply g second b rest r row
+GraphReply g second b rest r row abouts.List = ListReply g b rest r row
+GraphReply g second b rest r row abouts.Advance = AdvanceReply g second b rest r row
+GraphReply g second b rest r row abouts.Check = CheckReply g second b rest r
+GraphReply g second b rest r row abouts.Peak = PeakReply g b rest r
+GraphReply g second b rest r row abouts.First = FirstReply g second b rest r row
+GraphReply g second b rest r row abouts.Next = NextReply g second b rest r row
 
--- how many numbers a question about a graph takes: the number of types, and for some a bound or a step
-pub data Takes : ℕ → ℕ → Type 0 where
-  asap : Takes 1 1
-  list : Takes 4 1
-  peak : Takes 7 1
-  other : {question : ℕ} → (question ≡ 1 → ⊥) → (question ≡ 4 → ⊥) → (question ≡ 7 → ⊥) → Takes question 2
+-- the reply to each question that the bytes hold: about their graph, after one number or two, or about two tables
+abbrev pub Replied : List ℕ → Result Reply Fault → List ℕ → question.Question → Type 0
+Replied b r row (questions.Graph q) = GraphReply (graph_in b (numbers_of q)) (eight b 8) b (rest_from b (numbers_of q)) r row q
+Replied b r row questions.View = ViewReply (eight b 0) (eight b 8) (eight b 16) b 24 r
 
--- the reply to a question about a graph that the bytes hold
-pub record GraphAsked (b : List ℕ) (r : Reply) (row : List ℕ) (question : ℕ) : Type 0 where
-  pub count : ℕ
-  pub takes : Takes question count
-  pub second : ℕ
-  pub is_second : 2 ≤ count → second ≡ eight b 8
-  pub reply : GraphReply (graph_in b count) second b (rest_from b count) r row question
-
--- the reply to each question by its number, from 1 to 10
-pub data Answers (b : List ℕ) (r : Reply) (row : List ℕ) : ℕ → Type 0 where
-  graph : {question : ℕ} → GraphAsked b r row question → Answers b r row question
-  view : ViewReply (eight b 0) (eight b 8) (eight b 16) b 24 r → Answers b r row 10
-  unasked : {question : ℕ} → Unasked b r → Answers b r row question
+-- the reply to the question that has the number; where none has it, nothing was asked
+pub data Answers (b : List ℕ) (r : Result Reply Fault) (row : List ℕ) (number : ℕ) : Type 0 where
+  replied : (q : question.Question) → number_of q ≡ number → Replied b r row q → Answers b r row number
+  unknown : (number ≡ 0) ⊎ (10 < number) → r ≡ Err Unknown → Answers b r row number

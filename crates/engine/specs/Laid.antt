@@ -9,6 +9,11 @@ pub record Within (before : List ℕ) (start count : ℕ) (after : List ℕ) : T
   pub low : (k : ℕ) → k < start → at after k ≡ at before k
   pub high : (k : ℕ) → start + count ≤ k → at after k ≡ at before k
 
+-- the bytes of `laid` were written
+pub record BytesLaid (laid before : List ℕ) (start : ℕ) (after : List ℕ) : Type 0 where
+  pub within : Within before start (length laid) after
+  pub says : (k : ℕ) → k < length laid → at after (start + k) ≡ at laid k
+
 -- a number was written as two bytes
 pub record TwoLaid (number : ℕ) (before : List ℕ) (start : ℕ) (after : List ℕ) : Type 0 where
   pub within : Within before start 2 after

@@ -1,7 +1,7 @@
 pub mod Frame
 pub mod Laid
 pub mod Rows
-pub mod Replies
+pub mod Numbers
 pub mod Asked
 pub mod Dispatch
 pub mod Serving

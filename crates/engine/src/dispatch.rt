@@ -1,124 +1,97 @@
 // From a question's number and bytes to its reply.
-ghost use Rattle.std.specs.Prelude.{◌≤◌, length};
-ghost use Rattle.model.specs.Graph.{lent};
-ghost use Rattle.engine.specs.Frame.{longest};
-ghost use Rattle.engine.specs.Dispatch.{GraphReply, GraphAsked, Takes, Answers};
+ghost use Rattle.std.specs.Prelude.{◌≡◌, ◌+◌, ◌*◌, OnOk, IfOk};
+ghost use Rattle.engine.specs.Asked.{graph_of, ViewReply};
+ghost use Rattle.engine.specs.Frame.{eight};
+ghost use Rattle.engine.specs.Numbers.{numbers_of};
+ghost use Rattle.engine.specs.Dispatch.{GraphReply, Replied, Answers};
 
-use crate::kinds::UNKNOWN;
-use crate::questions::{advance, alap, asap, check, first, list, mobility, next, peak, view};
-use crate::reply::{Reply, unasked};
-use crate::rows::{Row, bytes_of, graph_after, number, numbers, read_words};
+use crate::cursor::Cursor;
+use crate::fault::Fault;
+use crate::graph::Graph;
+use crate::question::{About, Question};
+use crate::reply::Reply;
 use crate::sizes::LONGEST;
 
-// The questions about a graph, whose second number is a bound or a step.
+// A question about a graph that is read, whose second number is a bound or a step.
 fn about(
-    question: usize,
-    delays: &[u8],
-    types: &[u8],
-    kinds: usize,
+    question: About,
+    graph: &Graph<'_>,
     second: usize,
-    from: &[u16],
-    to: &[u16],
-    body: &[u8],
-    graph: Row,
+    rest: Cursor<'_>,
     out: &mut [u16],
-) -> Reply
-    requires { longest ≤ length out.old }
-    ensures { GraphReply (lent delays.now types.now kinds from.now to.now) second body.now graph.next result out.new question }
+) -> Result<Reply, Fault>
+    ensures { GraphReply (graph_of graph.now) second rest.entry.bytes.now rest.entry.at result out.new question }
 {
     match question {
-        1 => asap(delays, types, kinds, from, to, body, graph, out),
-        2 => alap(delays, types, kinds, from, to, second, body, graph, out),
-        3 => mobility(delays, types, kinds, from, to, second, body, graph, out),
-        4 => list(delays, types, kinds, from, to, body, graph, out),
-        5 => advance(delays, types, kinds, from, to, second, body, graph, out),
-        6 => check(delays, types, kinds, from, to, second, body, graph),
-        7 => peak(delays, types, kinds, from, to, body, graph),
-        8 => first(delays, types, kinds, from, to, second, body, graph, out),
-        9 => next(delays, types, kinds, from, to, second, body, graph, out),
-        _ => unasked(UNKNOWN),
+        About::Asap => graph.asap(rest, out),
+        About::Alap => graph.alap(second, rest, out),
+        About::Mobility => graph.mobility(second, rest, out),
+        About::List => graph.list(rest, out),
+        About::Advance => graph.advance(second, rest, out),
+        About::Check => graph.check(second, rest),
+        About::Peak => graph.peak(rest),
+        About::First => graph.first(second, rest, out),
+        About::Next => graph.next(second, rest, out),
     }
 }
 
-// How many numbers a question about a graph takes: the number of types, and for some a bound or a step.
-fn numbers_of(question: usize) -> usize
-    ensures { Takes question result }
+// The second number of a question that takes one: its bound or step. Where it takes none, nothing is read.
+fn second_of(question: About, rest: &mut Cursor<'_>) -> Result<usize, Fault>
+    ensures same { rest.new.bytes.now ≡ rest.old.bytes.now }
+    ensures read { IfOk result (λ n. numbers_of question ≡ 2 → n ≡ eight rest.old.bytes.now rest.old.at) }
+    ensures moved { OnOk result (rest.new.at + 8 ≡ rest.old.at + 8 * numbers_of question) }
 {
-    match question {
-        1 => 1,
-        4 => 1,
-        7 => 1,
-        _ => 2,
+    if question.numbers() < 2 {
+        return Ok(0);
     }
+    rest.number()
 }
 
-// A question about a graph: the graph's rows are read and lent.
-fn graph_question(question: usize, body: &[u8], out: &mut [u16]) -> Reply
-    requires { longest ≤ length out.old }
-    ensures { Answers body.now result out.new question }
+// A question about a graph: the graph's numbers and rows are read and lent.
+fn graph_question(question: About, body: &[u8], out: &mut [u16]) -> Result<Reply, Fault>
+    ensures { Replied body.now result out.new (Question.Graph question) }
 {
-    let graph = graph_after(body, numbers_of(question));
-    let to_row = graph.to;
-    let fault = to_row.fault;
-    if fault != 0 {
-        return unasked(fault);
-    }
-    let from_row = graph.from;
-    let mut from = [0u16; LONGEST];
-    read_words(body, from_row, &mut from);
-    let from_len = from_row.len;
-    let mut to = [0u16; LONGEST];
-    read_words(body, to_row, &mut to);
-    let to_len = to_row.len;
-    let delays = bytes_of(body, graph.delays);
-    let types = bytes_of(body, graph.types);
-    let kinds = number(body, 0);
-    let second = number(body, 1);
-    about(
-        question,
+    let mut rest = Cursor::new(body);
+    let kinds = rest.number()?;
+    let second = second_of(question, &mut rest)?;
+    let delays = rest.bytes()?;
+    let types = rest.bytes()?;
+    let mut from = [0; LONGEST];
+    let from_row = rest.words(&mut from)?;
+    let mut to = [0; LONGEST];
+    let to_row = rest.words(&mut to)?;
+    let graph = Graph {
         delays,
         types,
         kinds,
-        second,
-        &from[0..from_len],
-        &to[0..to_len],
-        body,
-        to_row,
-        out,
-    )
+        from: &from[..from_row.len],
+        to: &to[..to_row.len],
+    };
+    about(question, &graph, second, rest, out)
 }
 
-// A question about two tables.
-fn view_question(body: &[u8], out: &mut [u16]) -> Reply
-    ensures { Answers body.now result out.new 10 }
+// A part of a channel's table, without a graph.
+fn view(body: &[u8]) -> Result<Reply, Fault>
+    ensures { ViewReply (eight body.now 0) (eight body.now 8) (eight body.now 16) body.now 24 result }
 {
-    let before = numbers(body, 3);
-    let fault = before.fault;
-    if fault != 0 {
-        return unasked(fault);
-    }
-    view(
-        number(body, 0),
-        number(body, 1),
-        number(body, 2),
-        body,
-        before,
-    )
+    let mut rest = Cursor::new(body);
+    let channel = rest.number()?;
+    let first = rest.number()?;
+    let count = rest.number()?;
+    let mut a = [0; LONGEST];
+    let a_row = rest.words(&mut a)?;
+    let mut b = [0; LONGEST];
+    let b_row = rest.last_words(&mut b)?;
+    let said = pedal::pedal_view(&a[..a_row.len], &b[..b_row.len], channel, first, count);
+    Ok(Reply::new(&[said.refusal, said.start, said.length], None))
 }
 
-// The reply to a question; the row that it writes is left in the first entries of `out`.
-pub fn ask(question: usize, body: &[u8], out: &mut [u16]) -> Reply
-    requires { longest ≤ length out.old }
-    ensures { Answers body.now result out.new question }
+// The reply to the question that has a number; the row that it writes is left in the first entries of `out`.
+pub fn ask(number: usize, body: &[u8], out: &mut [u16]) -> Result<Reply, Fault>
+    ensures { Answers body.now result out.new number }
 {
-    if question == 0 {
-        return unasked(UNKNOWN);
+    match Question::try_from(number)? {
+        Question::Graph(question) => graph_question(question, body, out),
+        Question::View => view(body),
     }
-    if 10 < question {
-        return unasked(UNKNOWN);
-    }
-    if question == 10 {
-        return view_question(body, out);
-    }
-    graph_question(question, body, out)
 }

@@ -2,12 +2,13 @@
 #![tactic(auto)]
 
 mod bytes;
+mod cursor;
 mod dispatch;
-mod kinds;
+mod fault;
+mod graph;
 mod pipe;
-mod questions;
+mod question;
 mod reply;
-mod rows;
 mod serve;
 mod sizes;
 

@@ -1,137 +1,133 @@
 // One question after another, from standard input to standard output.
-ghost use Rattle.std.specs.Prelude.{◌≡◌, ◌+◌, ◌*◌, ◌≤◌, ◌<◌, length};
-ghost use Rattle.engine.specs.Frame.{longest};
-ghost use Rattle.engine.specs.Serving.{frame, most, Ready};
+ghost use Rattle.std.specs.Prelude.{◌≡◌, ◌+◌, ◌*◌, ◌≤◌, length, IfOk, IfSome};
+ghost use Rattle.engine.specs.Serving.{most, Lies};
 
 use crate::bytes::{lay_eight, lay_four, lay_words, read_four};
+use crate::cursor::Row;
 use crate::dispatch::ask;
-use crate::kinds::{ASKED, CUT_OFF, TOO_LONG};
-use crate::pipe::{read_full, write_all};
-use crate::reply::{Reply, unasked};
-use crate::sizes::{FRAME, HEAD, LONGEST, MOST, NUMBERS};
+use crate::fault::Fault;
+use crate::pipe::{read_all, read_full, write_all};
+use crate::reply::Reply;
+use crate::sizes::{FRAME, HEAD, LONGEST, MOST};
 use std::io::{Stdin, Stdout};
+use std::ops::ControlFlow;
 
-// How often the loop over the questions turns at most: more often than any run lasts.
-const TURNS: u64 = 18446744073709551615;
+// The kind of an answer to a question that was asked.
+const ASKED: u32 = 0;
 
-// Writes the first numbers of an answer, eight bytes each, from a place on.
-fn lay_numbers(numbers: [usize; NUMBERS], count: usize, bytes: &mut [u8], at: usize)
-    requires count_bound { count ≤ 6 }
-    requires count_in_bounds { at + 8 * count ≤ length bytes.old }
-    ensures { length bytes.new ≡ length bytes.old }
-{
-    let mut i = 0;
-    while i < count {
-        lay_eight(numbers[i], bytes, at + 8 * i);
-        i += 1;
-    }
+// What stands before a question's bytes: its number, and their size, which the frame has room for.
+#[derive(Clone, Copy)]
+struct Head {
+    number: usize,
+    size: usize,
+    ghost few: { size ≤ most },
 }
 
-// Lays kind, size and numbers right before the question's bytes, and the written row over them. Where the answer begins.
-fn lay_reply(reply: Reply, out: &[u16], size: usize, bytes: &mut [u8]) -> usize
-    requires { Ready reply size out.now bytes.old }
-    ensures { (result + 8 ≤ 56) × (length bytes.new ≡ length bytes.old) }
-{
-    let at = reply.at;
-    lay_words(out, reply.len, bytes, HEAD + at);
-    let count = reply.count;
-    let numbers = reply.numbers;
-    lay_numbers(numbers, count, bytes, HEAD - 8 * count);
-    let begin = HEAD - 8 * count - 8;
-    lay_four(ASKED, bytes, begin);
-    lay_four(8 * count + size, bytes, begin + 4);
-    begin
+// The engine: the pipe, and the frame with a question's bytes and room for what stands before an answer's.
+#[derive(Drop)]
+struct Engine {
+    input: Stdin,
+    output: Stdout,
+    frame: [u8; FRAME],
 }
 
-// Answers a question: its numbers, and its bytes with the row written. Whether all was taken.
-fn answer(output: Stdout, question: usize, size: usize, bytes: &mut [u8], out: &mut [u16]) -> bool
-    requires { (size ≤ most) × (length bytes.old ≡ frame) × (longest ≤ length out.old) }
-{
-    let end = HEAD + size;
-    let reply = ask(question, &bytes[HEAD..end], out);
-    let kind = reply.kind;
-    if kind != ASKED {
-        return say_fault(output, kind);
-    }
-    let begin = lay_reply(reply, out, size, bytes);
-    write_all(output, &bytes[begin..end])
-}
-
-// Says a fault in the framing: its kind, and that nothing follows. Whether all was taken.
-fn say_fault(output: Stdout, kind: usize) -> bool {
-    let said = [(kind % 256) as u8, 0, 0, 0, 0, 0, 0, 0];
+// Says a fault in the framing: its kind, and that nothing follows.
+fn say_fault(output: Stdout, fault: Fault) -> ControlFlow<()> {
+    let mut said = [0; 8];
+    lay_four(u32::from(fault), &mut said, 0);
     write_all(output, &said)
 }
 
-// How many of so many bytes are read at once.
-fn at_once(left: usize) -> usize
-    requires { 0 < left }
-    ensures { (result ≤ left) × (result ≤ most) × (0 < result) }
+// Writes the numbers of an answer, eight bytes each, from a place on.
+fn lay_numbers(numbers: &[usize], bytes: &mut [u8], at: usize)
+    requires { at + 8 * length numbers.now ≤ length bytes.old }
+    ensures { length bytes.new ≡ length bytes.old }
 {
-    if left < MOST { left } else { MOST }
+    for (i, number) in numbers.iter().enumerate() {
+        lay_eight(*number, bytes, at + 8 * i);
+    }
 }
 
-// Reads past so many bytes. Whether all came.
-fn pass_over(input: Stdin, size: usize, bytes: &mut [u8]) -> bool
-    requires { length bytes.old ≡ frame }
-{
-    let mut left = size;
-    while left > 0 {
-        let some = at_once(left);
-        let got = read_full(input, &mut bytes[0..some]);
-        if got < some {
-            return false;
+impl Engine {
+    // Reads past so many bytes.
+    fn pass_over(&mut self, size: usize) -> Result<(), Fault> {
+        for _ in 0..size / MOST {
+            read_all(self.input, &mut self.frame[..MOST])?;
         }
-        left -= some;
+        read_all(self.input, &mut self.frame[..size % MOST])
     }
-    true
-}
 
-// Reads a question's bytes into the frame. Whether all came.
-fn read_body(input: Stdin, size: usize, bytes: &mut [u8]) -> bool
-    requires { (size ≤ most) × (length bytes.old ≡ frame) }
-{
-    let end = HEAD + size;
-    let got = read_full(input, &mut bytes[HEAD..end]);
-    got == size
-}
-
-// Reads one question and answers it. Whether to go on.
-fn serve_one(input: Stdin, output: Stdout, bytes: &mut [u8], out: &mut [u16]) -> bool
-    requires { (length bytes.old ≡ frame) × (longest ≤ length out.old) }
-{
-    let got = read_full(input, &mut bytes[0..8]);
-    if got == 0 {
-        return false;
-    }
-    if got < 8 {
-        say_fault(output, CUT_OFF);
-        return false;
-    }
-    let question = read_four(bytes, 0);
-    let size = read_four(bytes, 4);
-    if MOST < size {
-        if pass_over(input, size, bytes) {
-            return say_fault(output, TOO_LONG);
+    // Reads a question's number and size, and its bytes into the frame; none where the input ends before it.
+    fn read_question(&mut self) -> Result<Option<Head>, Fault> {
+        let mut head = [0; 8];
+        match read_full(self.input, &mut head) {
+            0 => return Ok(None),
+            8 => {}
+            _ => return Err(Fault::CutOff),
         }
-        say_fault(output, CUT_OFF);
-        return false;
+        let number = read_four(&head, 0) as usize;
+        let size = read_four(&head, 4) as usize;
+        if MOST < size {
+            self.pass_over(size)?;
+            return Err(Fault::TooLong);
+        }
+        read_all(self.input, &mut self.frame[HEAD..HEAD + size])?;
+        Ok(Some(Head { number, size }))
     }
-    if read_body(input, size, bytes) {
-        return answer(output, question, size, bytes, out);
+
+    // Lays kind, size and numbers right before the question's bytes, and the written row over them. Where the answer begins.
+    fn lay_reply(&mut self, reply: Reply, out: &[u16; LONGEST], size: usize) -> usize
+        requires { (size ≤ most) × IfSome reply.row (Lies size) }
+        ensures { result ≤ 48 }
+    {
+        if let Some(row) = reply.row {
+            lay_words(&out[..row.len], &mut self.frame, HEAD + row.at);
+        }
+        let count = reply.count;
+        let begin = HEAD - 8 * count - 8;
+        lay_four(ASKED, &mut self.frame, begin);
+        lay_four((8 * count + size) as u32, &mut self.frame, begin + 4);
+        lay_numbers(&reply.numbers[..count], &mut self.frame, begin + 8);
+        begin
     }
-    say_fault(output, CUT_OFF);
-    false
+
+    // Answers a question: its numbers, and its bytes with the row written.
+    fn answer(&mut self, head: Head) -> ControlFlow<()> {
+        let end = HEAD + head.size;
+        let mut out = [0; LONGEST];
+        match ask(head.number, &self.frame[HEAD..end], &mut out) {
+            Ok(reply) => {
+                let begin = self.lay_reply(reply, &out, head.size);
+                write_all(self.output, &self.frame[begin..end])
+            }
+            Err(fault) => say_fault(self.output, fault),
+        }
+    }
+
+    // Reads one question and answers it. Whether to go on.
+    fn serve_one(&mut self) -> ControlFlow<()> {
+        match self.read_question() {
+            Ok(Some(head)) => self.answer(head),
+            Ok(None) => ControlFlow::Break(()),
+            Err(Fault::CutOff) => {
+                say_fault(self.output, Fault::CutOff)?;
+                ControlFlow::Break(())
+            }
+            Err(fault) => say_fault(self.output, fault),
+        }
+    }
 }
 
 // Answers questions until the input ends, a question is cut off, or nobody reads the answers.
 pub fn serve(input: Stdin, output: Stdout) {
-    let mut frame = [0u8; FRAME];
-    let mut row = [0u16; LONGEST];
-    let bytes: &mut [u8] = &mut frame;
-    let out: &mut [u16] = &mut row;
-    let mut turns = TURNS;
-    while turns > 0 && serve_one(input, output, bytes, out) {
-        turns -= 1;
+    let mut engine = Engine {
+        input,
+        output,
+        frame: [0; FRAME],
+    };
+    for _ in 0..u64::MAX {
+        if engine.serve_one().is_break() {
+            return;
+        }
     }
 }

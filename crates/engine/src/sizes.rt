@@ -9,4 +9,4 @@ pub const NUMBERS: usize = 6;
 // Where the question's bytes begin in the frame: before them an answer's kind, size and numbers have room.
 pub const HEAD: usize = 56;
 // The frame's length.
-pub const FRAME: usize = 65592;
+pub const FRAME: usize = HEAD + MOST;

@@ -1,2 +1,2 @@
-pub mod LaterAndDifferences
+pub mod Differences
 pub mod OneAnswer

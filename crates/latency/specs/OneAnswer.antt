@@ -6,7 +6,7 @@ use Rattle.maths.specs.Rows.{same_row}
 use Rattle.model.specs.Order.{ordered}
 use Rattle.model.specs.Tables.{Latency}
 use Rattle.theory.specs.tables.OneTable.{latency_one}
-use Rattle.latency.specs.LaterAndDifferences.{Differences}
+use Rattle.latency.specs.Differences.{Differences}
 
 -- of `latency`
 pub latency_answer_one : (delays starts : List ℕ) (l m : ℕ) → ((from to : List ℕ) → Latency (ordered delays from to) starts l)

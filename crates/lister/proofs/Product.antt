@@ -3,10 +3,11 @@ use mathlib.Core.Path.{◌≡◌, refl, sym, ap, ap₂, subst, ◌∙◌}
 use mathlib.Core.Logic.{⊎_elim}
 use mathlib.Core.List.{List}
 use Prim.Native.Nat.{ℕ, zero, suc, ◌+◌, ◌-◌, ◌*◌, ◌<◌, ◌≤◌}
-use native.Mathlib.Nat.{eq-or-lt_of_le, le_of_suc-le-suc, mul-le-mul, mul-le-mul_left}
+use native.Mathlib.Nat.{eq-or-lt_of_le, le_of_suc-le-suc, mul-le-mul_left}
 use native.Mathlib.Numerals.{add-one}
 use native.Mathlib.Omega.{arith}
-use Rattle.maths.specs.Rows.{at, tabulate_at}
+use lib.ListN.{length, take}
+use Rattle.maths.specs.Rows.{at, tabulate_at, take_at, take_long}
 use Rattle.model.specs.Limits as limit
 use Rattle.model.specs.Refusals.{product}
 use Rattle.lister.specs.Search.{spans}
@@ -39,10 +40,6 @@ module _ {early late : List ℕ} {n : ℕ} where
   multiplied_none = record { inside = omega arith; is = refl; small = omega arith }
 
   module _ {windows i : ℕ} (w : Multiplied early late n windows i) where
-    -- a factor is at most the number of steps and 1, so the next product fits
-    pub multiplied_fits : (r : ℕ) → r ≤ limit.steps + 1 → windows * r ≤ limit.windows * (limit.steps + 1)
-    multiplied_fits r h = mul-le-mul w.small h
-
     module _ (inside : i < n) {r : ℕ} (is : r ≡ at late i - at early i + 1) where
       more : windows * r ≡ product (spans early late n) (i + 1)
       more =
@@ -50,8 +47,8 @@ module _ {early late : List ℕ} {n : ℕ} where
           ap₂ ◌*◌ w.is factor ∙ sym (product_step (spans early late n) i)
 
       -- one factor more, within the limit
-      pub multiplied_step : windows * r ≤ limit.windows → Multiplied early late n (windows * r) (i + 1)
-      multiplied_step small = record { inside = omega arith; is = more; small = small }
+      pub multiplied_step : {k : ℕ} → k ≡ i + 1 → windows * r ≤ limit.windows → Multiplied early late n (windows * r) k
+      multiplied_step e small = record { inside = omega arith; is = more ∙ ap (product (spans early late n)) (sym e); small = small }
 
       -- one factor more, above the limit: no later factor brings it back
       pub multiplied_above : limit.windows < windows * r → limit.windows < product (spans early late n) n
@@ -62,3 +59,10 @@ module _ {early late : List ℕ} {n : ℕ} where
     multiplied_end last above =
         let e : i ≡ n = omega (arith, w.inside) in
         omega (arith, w.small, w.is, ap (product (spans early late n)) e)
+
+-- the k-th of the first n windows is the k-th of the two rows
+pub window_at : (early late : List ℕ) {n k first last : ℕ} → n ≤ length early → n ≤ length late → k < length (take n early) → first ≡ at (take n early) k → last ≡ at (take n late) k
+    → (k < n) × (first ≡ at early k) × (last ≡ at late k)
+window_at early late {n} {k} a b l p q =
+    let inside : k < n = omega (arith, take_long n early a) in
+    (inside, p ∙ take_at n early k inside, q ∙ take_at n late k inside)

@@ -8,8 +8,10 @@ use native.Mathlib.Nat.{eq-or-lt_of_le, le_of_suc-le-suc}
 use native.Mathlib.Numerals.{add-one}
 use native.Mathlib.Omega.{arith}
 use lib.ListN.{length, take}
-use Rattle.maths.specs.Tests.{two, clash}
-use Rattle.maths.specs.Rows.{at, take_at, take_long}
+use Rattle.std.proofs.Math.Option.{Option, none, some}
+use Rattle.maths.specs.Cases.{none_some, some_one}
+use Rattle.maths.specs.Tests.{two}
+use Rattle.maths.specs.Rows.{at, over, take_at, take_long}
 use Rattle.maths.specs.Sum.{sum}
 use Rattle.maths.specs.Count.{count, count_no, count_start}
 use Rattle.maths.specs.Words.{Same, Before}
@@ -20,11 +22,11 @@ use Rattle.model.specs.Use.{runs, Lawful}
 use Rattle.theory.specs.unit_use.RunningAndPeak.{runs_true, running_first}
 use Rattle.theory.specs.lister.Windows.{lawful_in_window}
 use Rattle.model.specs.Listing.{Later, Least, NoneLeft, Gives}
-use Rattle.model.specs.declared.Listed.{Listed}
+use Rattle.model.specs.declared.Listed.TheVariants as answers
 use Rattle.unit_use.specs.FirstInUse.{in_use_is}
 use Rattle.placement.specs.Fit.{higher}
 use Rattle.lister.specs.Search.{Job, Placed, Completes, Searched}
-use Rattle.lister.specs.Asking.{asked_of, Given, Sought}
+use Rattle.lister.specs.Asking.{Sought}
 use Rattle.lister.proofs.Turns.{placed_local}
 
 -- fewer are counted among fewer
@@ -36,6 +38,17 @@ count_wide p m (suc n) l =
     (λ e. subst (λ (k : ℕ). count p m ≤ count p k) e (omega arith))
     (λ h. omega (arith, count_wide p m n (le_of_suc-le-suc h)))
     (eq-or-lt_of_le l)
+
+-- to come after the row asked after, if there is one
+later_of : {n : ℕ} (asked : Option (List ℕ)) (t : List ℕ) → ((row : List ℕ) → asked ≡ some row → Before n row t) → Later n asked t
+unfolding Later
+later_of none t h = tt
+later_of (some row) t h = h row refl
+
+later_on : {n : ℕ} (asked : Option (List ℕ)) (t : List ℕ) → Later n asked t → (row : List ℕ) → asked ≡ some row → Before n row t
+unfolding Later
+later_on none t h row e = absurd (none_some e)
+later_on {n} (some own) t h row e = subst (λ (r : List ℕ). Before n r t) (some_one e) h
 
 module _ (j : Job) (sound : Sound j.graph) (bound : ℕ) (early : Earliest (order j.graph) j.early) (late : Latest (order j.graph) bound j.late) where
   -- windows lose nothing
@@ -92,50 +105,36 @@ module _ (j : Job) (sound : Sound j.graph) (bound : ℕ) (early : Earliest (orde
     room = λ k l b. roomy t p k l (many j.graph) (omega arith);
   }
 
-  later_of : (b : Bool) (row t : List ℕ) → (b ≡ true → Before (many j.graph) row t) → Later (many j.graph) (asked_of b row) t
-  unfolding Later asked_of
-  later_of true row t h = h refl
-  later_of false row t h = tt
-
-  later_on : (b : Bool) (row t : List ℕ) → Later (many j.graph) (asked_of b row) t → b ≡ true → Before (many j.graph) row t
-  unfolding Later asked_of
-  later_on true row t h e = h
-  later_on false row t h e = absurd (clash e refl)
-
   -- ---- the search from nothing placed answers the question
-  module _ {s s' : List ℕ} {equal found : Bool} (f : Searched j s 0 equal s' found) where
-    completes : (u : List ℕ) → Lawful j.graph j.units bound u → Later (many j.graph) (asked_of equal j.after) u → Completes j s 0 equal u
-    completes u h l = record { placed = lawful_placed u h; same = same_none u s; later = later_on equal j.after u l }
+  module _ {s s' : List ℕ} {asked : Option (List ℕ)} {found : Bool} (f : Searched j s 0 asked s' found) where
+    completes : (u : List ℕ) → Lawful j.graph j.units bound u → Later (many j.graph) asked u → Completes j s 0 asked u
+    completes u h l = record { placed = lawful_placed u h; same = same_none u s; later = later_on asked u l }
 
-    search_least : many j.graph ≤ length s' → found ≡ true
-        → Least j.graph j.units bound (asked_of equal j.after) (take (many j.graph) s')
+    search_least : many j.graph ≤ length s' → found ≡ true → Least j.graph j.units bound asked (take (many j.graph) s')
     search_least room on =
         let c = f.yes on in
         let starts = take (many j.graph) s' in
         let same : Same (many j.graph) s' starts = record { upto = λ i b. sym (take_at (many j.graph) s' i b) } in
         record {
           lawful = placed_lawful starts (take_long (many j.graph) s' room) (placed_local same c.placed);
-          later = later_of equal j.after starts (λ e. before_same (c.later e) same);
+          later = later_of asked starts (λ row e. before_same (c.later row e) same);
           none_between = λ u h l b. f.least on u (completes u h l) (before_same b (same_sym same));
         }
 
-    search_none : found ≡ false → NoneLeft j.graph j.units bound (asked_of equal j.after)
+    search_none : found ≡ false → NoneLeft j.graph j.units bound asked
     search_none off = record { none_later = λ u h l. f.none off u (completes u h l) }
 
--- what the search found is the least schedule; what it did not find does not exist
-pub sought : {j : Job} → Sound j.graph → {s s' before after : List ℕ} {equal : Bool} (found : Bool) {r : Listed} → Searched j s 0 equal s' found
-    → many j.graph ≤ length s' → Given (take (many j.graph) s') found before r after → Sought j equal before r after
-unfolding Gives
-sought {j} sound {s' = s'} {before} {after} {equal} true f room g =
-    subst (λ (x : Listed). Sought j equal before x after) (sym (g.is_found refl))
-    (record {
-      passes = refl;
-      gives = λ bound early late.
-          record { row = take (many j.graph) s'; is = search_least j sound bound early late f room refl; written = g.written refl };
-    })
-sought {j} sound {before = before} {after} {equal} false f room g =
-    subst (λ (x : Listed). Sought j equal before x after) (sym (g.is_none refl))
-    (record {
-      passes = refl;
-      gives = λ bound early late. record { none = search_none j sound bound early late f refl; kept = g.kept refl };
-    })
+module _ {j : Job} (sound : Sound j.graph) {s s' before : List ℕ} {asked : Option (List ℕ)} {found : Bool} (f : Searched j s 0 asked s' found) where
+  -- what the search found is the least schedule
+  pub sought_found : {after : List ℕ} → found ≡ true → many j.graph ≤ length s' → after ≡ over (take (many j.graph) s') before
+      → Sought j asked before answers.Found after
+  unfolding Gives
+  sought_found on room written = record {
+    gives = λ bound early late.
+        record { row = take (many j.graph) s'; is = search_least j sound bound early late f room on; written = written };
+  }
+
+  -- what it did not find does not exist
+  pub sought_none : found ≡ false → Sought j asked before answers.NoneLeft before
+  unfolding Gives
+  sought_none off = record { gives = λ bound early late. record { none = search_none j sound bound early late f off; kept = refl } }

@@ -1,3 +1,4 @@
 pub mod Search
+pub mod Lent
 pub mod Asking
 pub mod OneAnswer

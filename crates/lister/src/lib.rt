@@ -1,156 +1,118 @@
 // The lister of all lawful schedules: the least one, and the least one after a row.
 #![tactic(auto)]
 
+mod job;
 mod search;
 
-ghost use Rattle.std.specs.Prelude.{◌≡◌, ◌+◌, ◌-◌, ◌≤◌, ◌<◌, length, take};
+ghost use Rattle.std.specs.Prelude.{◌≡◌, ◌<◌, ◌≤◌, length, IfSome};
 ghost use Rattle.std.proofs.Math.Option.{none, some};
 ghost use Rattle.maths.specs.Cases.{Tells};
-ghost use Rattle.model.specs.Graph.{lent};
 ghost use Rattle.model.specs.Limits as limit;
+ghost use Rattle.model.specs.Lent.{graph_in};
 ghost use Rattle.model.specs.Listing.{ListerAnswer};
 ghost use Rattle.model.specs.Refusals.{product};
-ghost use Rattle.lister.specs.Search.{job, Sized, spans, Windows};
-ghost use Rattle.lister.specs.Asking.{asked_of, Matched, Given, Sought};
+ghost use Rattle.lister.specs.Search.{spans, Reaches};
+ghost use Rattle.lister.specs.Lent.{job_in, asked_of};
+ghost use Rattle.lister.specs.Asking.{Sought};
 
-use crate::search::place;
+use crate::job::Job;
+use model::graph::Graph;
 use model::limits::{OPERATIONS, WINDOWS};
-use model::{Answer, Listed, Refusal};
+use model::order::Order;
+use model::work::Work;
+use model::{Listed, Refusal};
 
-// How many starts a window has: its mobility and 1.
-fn window(early: u16, late: u16) -> usize
-    requires { (early ≤ late) × (late ≤ limit.steps) }
-    ensures { (result ≡ late - early + 1) × (result ≤ limit.steps + 1) }
+// Whether the rows that only the lister takes have the length that they must have: a unit count for each type, and an entry for each
+// operation in the row asked after.
+fn rows_match(graph: &Graph, units: &[u8], after: Option<&[u16]>) -> bool
+    ensures { Tells result ((length units.now ≡ graph.now.kinds) × IfSome after.entry (λ row. length row.now ≡ length graph.now.delays.now)) }
 {
-    (late - early) as usize + 1
+    units.len() == graph.kinds && after.is_none_or(|row| row.len() == graph.delays.len())
 }
 
 // Whether the product of (mobility + 1) exceeds the limit. It stops at the first product above it, so nothing wraps, and no later factor is below 1.
-fn too_many(early: &[u16; OPERATIONS], late: &[u16; OPERATIONS], n: usize) -> bool
-    requires { (n ≤ limit.operations) × Windows early.now late.now n }
-    ensures { Tells result (limit.windows < product (spans early.now late.now n) n) }
+fn too_many(job: &Job) -> bool
+    ensures { Tells result (limit.windows < product (spans job.now.early job.now.late (length job.now.work.delays.now)) (length job.now.work.delays.now)) }
 {
+    let n = job.work.delays.len();
     let mut windows: usize = 1;
-    let mut i = 0;
-    while i < n {
-        windows *= window(early[i], late[i]);
+    for (first, last) in job.early[..n].iter().zip(&job.late[..n]) {
+        windows *= usize::from(*last - *first) + 1;
         if WINDOWS < windows {
             return true;
         }
-        i += 1;
     }
     false
 }
 
-// What was found goes to the output's first entries; where nothing was found the output stays.
-fn give(row: &[u16; OPERATIONS], n: usize, found: bool, out: &mut [u16]) -> Listed
-    requires { (n ≤ limit.operations) × (n ≤ length out.old) }
-    ensures { Given (take n row.now) found out.old result out.new }
+// The least schedule into `out`, or none left. The search works in a row of its own, so the output is written only once it has succeeded.
+fn seek(job: &Job, after: Option<&[u16]>, out: &mut [u16]) -> Listed
+    requires reaches { Reaches (asked_of after) (length job.now.work.delays.now) }
+    requires room { length job.now.work.delays.now ≤ length out.old }
+    ensures { Sought (job_in job.now) (asked_of after.entry) out.old result out.new }
 {
+    let mut row = [0u16; OPERATIONS];
+    let found = job.place(&mut row, 0, after);
     if found {
-        admission::rows::fill(row, n, out);
+        admission::rows::fill(&row, job.work.delays.len(), out);
         return Listed::Found;
     }
     Listed::NoneLeft
 }
 
-// The least schedule into `out`, or none left. The search works in a row of its own, so the output is written only once it has succeeded.
-fn seek(
-    delays: &[u8],
-    types: &[u8],
-    from: &[u16],
-    to: &[u16],
-    units: &[u8],
-    early: &[u16; OPERATIONS],
-    late: &[u16; OPERATIONS],
-    after: &[u16],
-    equal: bool,
-    out: &mut [u16],
-) -> Listed
-    requires { Sized (job delays.now types.now from.now to.now units.now early.now late.now after.now) out.old }
-    ensures { Sought (job delays.now types.now from.now to.now units.now early.now late.now after.now) equal out.old result out.new }
-{
-    let links = placement::higher_links(from, to);
-    let mut row = [0u16; OPERATIONS];
-    let found = place(
-        delays, types, from, to, &links, units, early, late, after, &mut row, 0, equal,
-    );
-    give(&row, delays.len(), found, out)
-}
-
-// Refusals 1 to 9, then 10 by the windows, then the search. `matched` tells that the rows that only the lister takes have the length that they must have;
-// where `equal`, the schedule comes after `after`, to which the row is equal so far, with nothing placed.
+// Refusals 1 to 9, then 10 by the windows, then the search for the least schedule: of all, or of those after a row.
 fn ask(
-    delays: &[u8],
-    types: &[u8],
-    kinds: usize,
-    from: &[u16],
-    to: &[u16],
+    graph: &Graph,
     units: &[u8],
     bound: usize,
-    matched: bool,
-    after: &[u16],
-    equal: bool,
+    after: Option<&[u16]>,
     out: &mut [u16],
-) -> Listed
-    requires { Matched (lent delays.now types.now kinds from.now to.now) units.now equal after.now matched }
-    ensures { ListerAnswer (lent delays.now types.now kinds from.now to.now) units.now bound (asked_of equal after.now) out.old result out.new }
+) -> Result<Listed, Refusal>
+    ensures { ListerAnswer (graph_in graph.now) units.now bound (asked_of after.entry) out.old result out.new }
 {
-    let begun = admission::placed_with_units_within(
-        delays, types, kinds, from, to, units, matched, bound, out,
-    );
-    let early = begun.starts;
-    let answer = begun.answer;
-    match answer {
-        Answer::Refused(why) => Listed::Refused(why),
-        Answer::Done => {
-            let late = tables::latest(delays, from, to, bound);
-            if too_many(&early, &late, delays.len()) {
-                return Listed::Refused(Refusal::TooManyWindows);
-            }
-            seek(
-                delays, types, from, to, units, &early, &late, after, equal, out,
-            )
-        }
+    let matched = rows_match(graph, units, after);
+    let early = admission::placed_with_units_within(graph, units, matched, bound, out)?;
+    let order = Order {
+        weights: graph.delays,
+        from: graph.from,
+        to: graph.to,
+    };
+    let late = tables::latest(&order, bound);
+    let job = Job {
+        work: Work {
+            delays: graph.delays,
+            busy: graph.delays,
+            types: graph.types,
+            units,
+            from: graph.from,
+            to: graph.to,
+        },
+        links: placement::higher_links(graph.from, graph.to),
+        early,
+        late,
+    };
+    if too_many(&job) {
+        return Err(Refusal::TooManyWindows);
     }
+    Ok(seek(&job, after, out))
 }
 
 // The least lawful schedule into the first entries of `out`; or none left, or a refusal.
-pub fn first(
-    delays: &[u8],
-    types: &[u8],
-    kinds: usize,
-    from: &[u16],
-    to: &[u16],
-    units: &[u8],
-    bound: usize,
-    out: &mut [u16],
-) -> Listed
-    ensures { ListerAnswer (lent delays.now types.now kinds from.now to.now) units.now bound none out.old result out.new }
+pub fn first(graph: &Graph, units: &[u8], bound: usize, out: &mut [u16]) -> Result<Listed, Refusal>
+    ensures { ListerAnswer (graph_in graph.now) units.now bound none out.old result out.new }
 {
-    let blank = [0u16; OPERATIONS];
-    let matched = admission::rows::rows_match(units.len(), kinds, 0, 0);
-    ask(
-        delays, types, kinds, from, to, units, bound, matched, &blank, false, out,
-    )
+    ask(graph, units, bound, None, out)
 }
 
 // The least lawful schedule that comes after the row `after`, which is only read, into the first entries of `out`; or none left, or a refusal.
 pub fn next(
-    delays: &[u8],
-    types: &[u8],
-    kinds: usize,
-    from: &[u16],
-    to: &[u16],
+    graph: &Graph,
     units: &[u8],
     bound: usize,
     after: &[u16],
     out: &mut [u16],
-) -> Listed
-    ensures { ListerAnswer (lent delays.now types.now kinds from.now to.now) units.now bound (some after.now) out.old result out.new }
+) -> Result<Listed, Refusal>
+    ensures { ListerAnswer (graph_in graph.now) units.now bound (some after.now) out.old result out.new }
 {
-    let matched = admission::rows::rows_match(units.len(), kinds, after.len(), delays.len());
-    ask(
-        delays, types, kinds, from, to, units, bound, matched, after, true, out,
-    )
+    ask(graph, units, bound, Some(after), out)
 }

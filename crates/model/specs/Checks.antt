@@ -1,4 +1,4 @@
--- Which rows of the table each question checks, as 01 lists them. A question that is added adds a line here.
+-- Which rows of the table each question checks. A question that is added adds a line here.
 use Rattle.std.specs.Prelude.{◌≡◌, List, ◌++◌, ℕ, length}
 use Rattle.std.proofs.Math.Option.{Option}
 use Rattle.model.specs.Graph.{Graph, order, many}

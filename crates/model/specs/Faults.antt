@@ -1,4 +1,4 @@
--- What the checker finds: lawful, or the first fault in 01's order.
+-- What the checker finds: lawful, or the first fault: an untimely operation, then a broken edge, then over-use.
 use Rattle.std.specs.Prelude.{◌≡◌, List, ℕ, ◌+◌, ◌<◌}
 use Rattle.maths.specs.Rows.{at}
 use Rattle.maths.specs.Lowest.{None}

@@ -1,4 +1,4 @@
--- The limits of document 01: the twins of src/limits.rt.
+-- The limits: the twins of src/limits.rt.
 use Rattle.std.specs.Prelude.{ℕ, ◌+◌, ◌*◌}
 
 -- the most operations

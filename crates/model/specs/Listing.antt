@@ -60,7 +60,7 @@ abbrev pub ListerAnswer : Graph → List ℕ → ℕ → Option (List ℕ) → L
 ListerAnswer g units bound asked out r after =
     Answered (lister_checks g units bound asked (length out)) out (Gives g units bound asked out r) (refusal_of r) after
 
--- ---- demand 3
+-- ---- every lawful schedule, each once
 -- what asking gives, from a schedule on: itself, then the next, and so on until none is left
 pub data Asked (g : Graph) (units : List ℕ) (bound : ℕ) : List ℕ → List (List ℕ) → Type 0 where
   last : {t : List ℕ} → NoneLeft g units bound (some t) → Asked g units bound t (t ∷ [])

@@ -1,4 +1,4 @@
--- Document 01's table: each row is a check that says a number and a place, and the first that applies is given. `Checks` says which question takes which rows.
+-- The table of refusals: each row is a check that says a number and a place, and the first that applies is given. `Checks` says which question takes which rows.
 use Rattle.std.specs.Prelude.{◌≡◌, ◌⊎◌, List, [], ◌∷◌, ℕ, zero, suc, ◌+◌, ◌*◌, ◌<◌, ◌≤◌, length}
 use Rattle.std.proofs.Math.Option.{Option, none, some}
 use Rattle.maths.specs.Rows.{at}

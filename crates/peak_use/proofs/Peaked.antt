@@ -13,7 +13,7 @@ use Rattle.model.specs.Limits as limit
 use Rattle.model.specs.Graph.{Graph, many, type_of}
 use Rattle.model.specs.Use.{running}
 use Rattle.theory.specs.unit_use.RunningAndPeak.{AtStarts, Met, peak_starts}
-use Rattle.peak_use.specs.Peaking.{AllPeaks}
+use Rattle.model.specs.Verdicts.{AllPeaks}
 
 -- p is the largest count of type k at the starts of the first i operations
 pub record Top (g : Graph) (t : List ℕ) (k i p : ℕ) : Type 0 where

@@ -1,3 +1,2 @@
 -- Laws for the proofs of this crate.
-mod Copying
 mod Moving

@@ -16,10 +16,11 @@ use Rattle.model.specs.Verdicts.{Checked, PeakAnswer}
 use Rattle.model.specs.Listing.{ListerAnswer}
 use Rattle.theory.specs.lister.OneListerAnswer.{lister_answer_one}
 use Rattle.model.specs.Channels.{Table}
+use Rattle.model.specs.Views.{ViewRefusal}
 use Rattle.theory.specs.views.OneView.{view_refusal_one}
 use Rattle.checker.specs.OneAnswer.{check_one}
 use Rattle.peak_use.specs.OneAnswer.{peak_use_one}
-use Rattle.pedal.specs.Face.{HandsOn, filled_of, scheduled_of, verdict_of, listed_of, peaks_of, advanced_of, PartSaid, AdvanceSaid}
+use Rattle.pedal.specs.Face.{HandsOn, filled_of, scheduled_of, verdict_of, listed_of, peaks_of, advanced_of, part_of, PartSaid, AdvanceSaid}
 use Rattle.pedal.specs.declared.Filled.{Filled}
 use Rattle.pedal.specs.declared.Scheduled.{Scheduled}
 use Rattle.pedal.specs.declared.Verdict.{Verdict}
@@ -55,9 +56,9 @@ pub pedal_list_one : (g : Graph) (units out : List ℕ) (r s : Scheduled) (x y :
     → HandsOn (λ a. ListAnswer g units out a y) scheduled_of s → (r ≡ s) × (x ≡ y)
 pedal_list_one g units out = row_one (ListAnswer g units out) scheduled_of (list_answer_one g units out)
 
-pub pedal_check_one : (g : Graph) (units : List ℕ) (bound : ℕ) (t : List ℕ) (r s : Verdict) → HandsOn (Checked g units bound t) (λ v. verdict_of v.finding) r
-    → HandsOn (Checked g units bound t) (λ v. verdict_of v.finding) s → r ≡ s
-pedal_check_one g units bound t = said_one (Checked g units bound t) (λ v. verdict_of v.finding) (check_one g units bound t)
+pub pedal_check_one : (g : Graph) (units : List ℕ) (bound : ℕ) (t : List ℕ) (r s : Verdict) → HandsOn (Checked g units bound t) verdict_of r
+    → HandsOn (Checked g units bound t) verdict_of s → r ≡ s
+pedal_check_one g units bound t = said_one (Checked g units bound t) verdict_of (check_one g units bound t)
 
 pub pedal_peak_one : (g : Graph) (t : List ℕ) (r s : Peaks) → HandsOn (PeakAnswer g t) peaks_of r → HandsOn (PeakAnswer g t) peaks_of s → r ≡ s
 pedal_peak_one g t = said_one (PeakAnswer g t) peaks_of (peak_use_one g t)
@@ -68,21 +69,8 @@ pub pedal_listed_one : (g : Graph) (units : List ℕ) (bound : ℕ) (asked : Opt
 pedal_listed_one g units bound asked out = row_one (ListerAnswer g units bound asked out) listed_of (lister_answer_one g units bound asked out)
 
 pub pedal_view_one : (a b : Table) (channel first count : ℕ) (r s : Part) → PartSaid a b channel first count r → PartSaid a b channel first count s → r ≡ s
-pedal_view_one a b channel first count r s h k =
-    let same = view_refusal_one a b channel first count r.refusal s.refusal h.refused k.refused in
-    ⊎_elim
-    (λ e.
-    let x = h.available e in
-    let y = k.available (sym same ∙ e) in
-    part_same same (x.0 ∙ sym y.0) (x.1 ∙ sym y.1))
-    (λ n.
-    let x = h.empty n in
-    let y = k.empty (λ e. n (same ∙ e)) in
-    part_same same (x.0 ∙ sym y.0) (x.1 ∙ sym y.1))
-    (same_or_not r.refusal 0)
-  where
-    part_same : {n m i j l o : ℕ} → n ≡ m → i ≡ j → l ≡ o → ◌≡◌ {A = Part} (record { refusal = n; start = i; length = l }) (record { refusal = m; start = j; length = o })
-    part_same p q t = cc
+pedal_view_one a b channel first count =
+    said_one (ViewRefusal a b channel first count) (part_of first count) (view_refusal_one a b channel first count)
 
 -- the advance of a state, or the refusal of a row that is none
 pub pedal_advance_one : (g : Graph) (units before : List ℕ) (step : ℕ) (r s : Advanced) (x y : List ℕ) → AdvanceSaid g units before step r x → AdvanceSaid g units before step s y

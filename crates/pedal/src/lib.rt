@@ -1,4 +1,4 @@
-// The face for C and Rust: each function hands on exactly what its entry point says, as numbers.
+// The face that `pedal_c` exports and the engine asks: each function hands on exactly what its entry point says, as numbers.
 #![tactic(auto)]
 
 ghost use Rattle.std.specs.Prelude.{◌≡◌, length};
@@ -9,11 +9,12 @@ ghost use Rattle.std.proofs.Math.Option.{none, some};
 ghost use Rattle.model.specs.Verdicts.{Checked, PeakAnswer};
 ghost use Rattle.model.specs.Scheduling.{ListAnswer};
 ghost use Rattle.model.specs.Listing.{ListerAnswer};
-ghost use Rattle.pedal.specs.Face.{HandsOn, filled_of, PartSaid, scheduled_of, verdict_of, listed_of, peaks_of, AdvanceSaid};
+ghost use Rattle.pedal.specs.Face.{HandsOn, refusal_of_or0, filled_of, PartSaid, scheduled_of, verdict_of, listed_of, peaks_of, AdvanceSaid};
 
 use list_schedule::State;
-use model::limits::OPERATIONS;
-use model::{Answer, Finding};
+use model::graph::Graph;
+use model::limits::{KINDS, OPERATIONS};
+use model::{Finding, Refusal};
 
 // The answer of a question that fills a row.
 #[repr(C)]
@@ -23,19 +24,22 @@ pub struct Filled {
     pub place: usize,
 }
 
-// The answer as numbers.
-fn as_filled(answer: Answer) -> Filled
-    ensures { result ≡ filled_of answer }
+// The number and the place of the refusal, both 0 where there is none.
+fn refusal_in<T: Copy>(answer: Result<T, Refusal>) -> (usize, usize)
+    ensures { result ≡ refusal_of_or0 answer }
 {
     match answer {
-        Answer::Done => Filled {
-            refusal: 0,
-            place: 0,
-        },
-        Answer::Refused(why) => Filled {
-            refusal: why.number(),
-            place: why.place(),
-        },
+        Ok(_) => (0, 0),
+        Err(why) => (why.number(), why.place()),
+    }
+}
+
+impl From<Result<(), Refusal>> for Filled {
+    ghost from_gives = { λ answer said. said ≡ filled_of answer };
+
+    fn from(answer: Result<(), Refusal>) -> Filled {
+        let (refusal, place) = refusal_in(answer);
+        Filled { refusal, place }
     }
 }
 
@@ -51,7 +55,14 @@ pub extern "C" fn pedal_asap(
 ) -> Filled
     ensures { HandsOn (λ a. AsapAnswer (lent delays.now types.now kinds from.now to.now) out.old a out.new) filled_of result }
 {
-    as_filled(tables::asap(delays, types, kinds, from, to, out))
+    let graph = Graph {
+        delays,
+        types,
+        kinds,
+        from,
+        to,
+    };
+    Filled::from(tables::asap(&graph, out))
 }
 
 // The ALAP starts within a bound.
@@ -67,7 +78,14 @@ pub extern "C" fn pedal_alap(
 ) -> Filled
     ensures { HandsOn (λ a. AlapAnswer (lent delays.now types.now kinds from.now to.now) bound out.old a out.new) filled_of result }
 {
-    as_filled(tables::alap(delays, types, kinds, from, to, bound, out))
+    let graph = Graph {
+        delays,
+        types,
+        kinds,
+        from,
+        to,
+    };
+    Filled::from(tables::alap(&graph, bound, out))
 }
 
 // The mobility within a bound.
@@ -83,7 +101,14 @@ pub extern "C" fn pedal_mobility(
 ) -> Filled
     ensures { HandsOn (λ a. MobilityAnswer (lent delays.now types.now kinds from.now to.now) bound out.old a out.new) filled_of result }
 {
-    as_filled(tables::mobility(delays, types, kinds, from, to, bound, out))
+    let graph = Graph {
+        delays,
+        types,
+        kinds,
+        from,
+        to,
+    };
+    Filled::from(tables::mobility(&graph, bound, out))
 }
 
 // A view: where it starts in the chosen table, and how many entries it has.
@@ -106,18 +131,17 @@ pub extern "C" fn pedal_view(
 ) -> Part
     ensures { PartSaid a.entry b.entry channel first count result }
 {
-    let refusal = views::view_refusal(a, b, channel, first, count);
-    if refusal == 0 {
-        return Part {
-            refusal,
+    match views::view_refusal(a, b, channel, first, count) {
+        None => Part {
+            refusal: 0,
             start: first,
             length: count,
-        };
-    }
-    Part {
-        refusal,
-        start: 0,
-        length: 0,
+        },
+        Some(why) => Part {
+            refusal: why.number(),
+            start: 0,
+            length: 0,
+        },
     }
 }
 
@@ -130,21 +154,16 @@ pub struct Scheduled {
     pub latency: usize,
 }
 
-// The list schedule's answer as numbers.
-fn as_scheduled(answer: model::Scheduled) -> Scheduled
-    ensures { result ≡ scheduled_of answer }
-{
-    match answer {
-        model::Scheduled::Latency(latency) => Scheduled {
-            refusal: 0,
-            place: 0,
-            latency,
-        },
-        model::Scheduled::Refused(why) => Scheduled {
-            refusal: why.number(),
-            place: why.place(),
-            latency: 0,
-        },
+impl From<Result<usize, Refusal>> for Scheduled {
+    ghost from_gives = { λ answer said. said ≡ scheduled_of answer };
+
+    fn from(answer: Result<usize, Refusal>) -> Scheduled {
+        let (refusal, place) = refusal_in(answer);
+        Scheduled {
+            refusal,
+            place,
+            latency: answer.unwrap_or(0),
+        }
     }
 }
 
@@ -161,7 +180,14 @@ pub extern "C" fn pedal_list(
 ) -> Scheduled
     ensures { HandsOn (λ a. ListAnswer (lent delays.now types.now kinds from.now to.now) units.now out.old a out.new) scheduled_of result }
 {
-    as_scheduled(list_schedule::list_schedule(delays, types, kinds, from, to, units, out))
+    let graph = Graph {
+        delays,
+        types,
+        kinds,
+        from,
+        to,
+    };
+    Scheduled::from(list_schedule::list_schedule(&graph, units, out))
 }
 
 // The checker's verdict: 0 lawful, 1 untimely, 2 broken, 3 over-use, with its operation, edge, or step and type.
@@ -175,47 +201,24 @@ pub struct Verdict {
     pub second: usize,
 }
 
-// The checker's verdict as numbers.
-fn as_verdict(verdict: model::Verdict) -> Verdict
-    ensures { result ≡ verdict_of verdict.finding }
-{
-    let finding = verdict.finding;
-    match finding {
-        Finding::Lawful => Verdict {
-            refusal: 0,
-            place: 0,
-            finding: 0,
-            first: 0,
-            second: 0,
-        },
-        Finding::Untimely(operation) => Verdict {
-            refusal: 0,
-            place: 0,
-            finding: 1,
-            first: operation,
-            second: 0,
-        },
-        Finding::Broken(edge) => Verdict {
-            refusal: 0,
-            place: 0,
-            finding: 2,
-            first: edge,
-            second: 0,
-        },
-        Finding::OverUse(step, kind) => Verdict {
-            refusal: 0,
-            place: 0,
-            finding: 3,
-            first: step,
-            second: kind,
-        },
-        Finding::Refused(why) => Verdict {
-            refusal: why.number(),
-            place: why.place(),
-            finding: 0,
-            first: 0,
-            second: 0,
-        },
+impl From<Result<Finding, Refusal>> for Verdict {
+    ghost from_gives = { λ answer said. said ≡ verdict_of answer };
+
+    fn from(answer: Result<Finding, Refusal>) -> Verdict {
+        let (refusal, place) = refusal_in(answer);
+        let (finding, first, second) = match answer {
+            Ok(Finding::Untimely(operation)) => (1, operation, 0),
+            Ok(Finding::Broken(edge)) => (2, edge, 0),
+            Ok(Finding::OverUse(step, kind)) => (3, step, kind),
+            _ => (0, 0, 0),
+        };
+        Verdict {
+            refusal,
+            place,
+            finding,
+            first,
+            second,
+        }
     }
 }
 
@@ -231,9 +234,16 @@ pub extern "C" fn pedal_check(
     bound: usize,
     starts: &[u16],
 ) -> Verdict
-    ensures { HandsOn (Checked (lent delays.now types.now kinds from.now to.now) units.now bound starts.now) (λ v. verdict_of v.finding) result }
+    ensures { HandsOn (Checked (lent delays.now types.now kinds from.now to.now) units.now bound starts.now) verdict_of result }
 {
-    as_verdict(checker::check(delays, types, kinds, from, to, units, bound, starts))
+    let graph = Graph {
+        delays,
+        types,
+        kinds,
+        from,
+        to,
+    };
+    Verdict::from(checker::check(&graph, units, bound, starts))
 }
 
 // The lister's answer: found is 1 where a schedule was written.
@@ -245,26 +255,20 @@ pub struct Listed {
     pub found: usize,
 }
 
-// The lister's answer as numbers.
-fn as_listed(answer: model::Listed) -> Listed
-    ensures { result ≡ listed_of answer }
-{
-    match answer {
-        model::Listed::Found => Listed {
-            refusal: 0,
-            place: 0,
-            found: 1,
-        },
-        model::Listed::NoneLeft => Listed {
-            refusal: 0,
-            place: 0,
-            found: 0,
-        },
-        model::Listed::Refused(why) => Listed {
-            refusal: why.number(),
-            place: why.place(),
-            found: 0,
-        },
+impl From<Result<model::Listed, Refusal>> for Listed {
+    ghost from_gives = { λ answer said. said ≡ listed_of answer };
+
+    fn from(answer: Result<model::Listed, Refusal>) -> Listed {
+        let (refusal, place) = refusal_in(answer);
+        let found = match answer {
+            Ok(model::Listed::Found) => 1,
+            _ => 0,
+        };
+        Listed {
+            refusal,
+            place,
+            found,
+        }
     }
 }
 
@@ -282,7 +286,14 @@ pub extern "C" fn pedal_first(
 ) -> Listed
     ensures { HandsOn (λ a. ListerAnswer (lent delays.now types.now kinds from.now to.now) units.now bound none out.old a out.new) listed_of result }
 {
-    as_listed(lister::first(delays, types, kinds, from, to, units, bound, out))
+    let graph = Graph {
+        delays,
+        types,
+        kinds,
+        from,
+        to,
+    };
+    Listed::from(lister::first(&graph, units, bound, out))
 }
 
 // The least lawful schedule after a row.
@@ -300,7 +311,14 @@ pub extern "C" fn pedal_next(
 ) -> Listed
     ensures { HandsOn (λ a. ListerAnswer (lent delays.now types.now kinds from.now to.now) units.now bound (some after.now) out.old a out.new) listed_of result }
 {
-    as_listed(lister::next(delays, types, kinds, from, to, units, bound, after, out))
+    let graph = Graph {
+        delays,
+        types,
+        kinds,
+        from,
+        to,
+    };
+    Listed::from(lister::next(&graph, units, bound, after, out))
 }
 
 // Peak use: for each type the most operations running at any one step.
@@ -315,20 +333,20 @@ pub struct Peaks {
     pub peak3: usize,
 }
 
-// Peak use as numbers.
-fn as_peaks(found: model::Peaks) -> Peaks
-    ensures { result ≡ peaks_of found }
-{
-    let answer = found.answer;
-    let counts = found.counts;
-    let said = as_filled(answer);
-    Peaks {
-        refusal: said.refusal,
-        place: said.place,
-        peak0: counts[0],
-        peak1: counts[1],
-        peak2: counts[2],
-        peak3: counts[3],
+impl From<Result<[usize; KINDS], Refusal>> for Peaks {
+    ghost from_gives = { λ answer said. said ≡ peaks_of answer };
+
+    fn from(answer: Result<[usize; KINDS], Refusal>) -> Peaks {
+        let (refusal, place) = refusal_in(answer);
+        let counts = answer.unwrap_or([0; KINDS]);
+        Peaks {
+            refusal,
+            place,
+            peak0: counts[0],
+            peak1: counts[1],
+            peak2: counts[2],
+            peak3: counts[3],
+        }
     }
 }
 
@@ -344,7 +362,14 @@ pub extern "C" fn pedal_peak(
 ) -> Peaks
     ensures { HandsOn (PeakAnswer (lent delays.now types.now kinds from.now to.now) starts.now) peaks_of result }
 {
-    as_peaks(peak_use::peak_use(delays, types, kinds, from, to, starts))
+    let graph = Graph {
+        delays,
+        types,
+        kinds,
+        from,
+        to,
+    };
+    Peaks::from(peak_use::peak_use(&graph, starts))
 }
 
 // The advance's answer, and the step that the state now has.
@@ -354,20 +379,6 @@ pub struct Advanced {
     pub refusal: usize,
     pub place: usize,
     pub step: usize,
-}
-
-// A row as a state's starts.
-fn starts_of(row: &[u16]) -> [u16; OPERATIONS]
-    requires { length row.now ≡ limit.operations }
-    ensures { result ≡ row.now }
-{
-    let mut starts = [0u16; OPERATIONS];
-    let mut i = 0;
-    while i < OPERATIONS {
-        starts[i] = row[i];
-        i += 1;
-    }
-    starts
 }
 
 // One step of the list schedule: the state's starts are changed in place. A row of another length is no state: refusal 2, or 1 before it.
@@ -384,27 +395,31 @@ pub extern "C" fn pedal_advance(
 ) -> Advanced
     ensures { AdvanceSaid (lent delays.now types.now kinds from.now to.now) units.now starts.old step result starts.new }
 {
+    let graph = Graph {
+        delays,
+        types,
+        kinds,
+        from,
+        to,
+    };
     if starts.len() != OPERATIONS {
-        let wrong = as_filled(admission::graph(delays, types, kinds, from, to, false));
+        let (refusal, place) = refusal_in(admission::graph(&graph, false));
         return Advanced {
-            refusal: wrong.refusal,
-            place: wrong.place,
+            refusal,
+            place,
             step,
         };
     }
-    let state = State {
+    let mut state = State {
         step,
-        starts: starts_of(starts),
+        starts: [0; OPERATIONS],
     };
-    let after = state.advance(delays, types, kinds, from, to, units);
-    let next = after.state;
-    let row = next.starts;
-    admission::rows::fill(&row, OPERATIONS, starts);
-    let answer = after.answer;
-    let said = as_filled(answer);
+    state.starts.copy_from_slice(starts);
+    let (refusal, place) = refusal_in(state.advance(&graph, units));
+    starts.copy_from_slice(&state.starts);
     Advanced {
-        refusal: said.refusal,
-        place: said.place,
-        step: next.step,
+        refusal,
+        place,
+        step: state.step,
     }
 }

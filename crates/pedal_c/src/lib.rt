@@ -100,7 +100,7 @@ pub extern "C" fn pedal_check(
     bound: usize,
     starts: &[u16],
 ) -> Verdict
-    ensures { HandsOn (Checked (lent delays.now types.now kinds from.now to.now) units.now bound starts.now) (λ v. verdict_of v.finding) result }
+    ensures { HandsOn (Checked (lent delays.now types.now kinds from.now to.now) units.now bound starts.now) verdict_of result }
 {
     pedal::pedal_check(delays, types, kinds, from, to, units, bound, starts)
 }

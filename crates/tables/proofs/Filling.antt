@@ -20,7 +20,7 @@ use Rattle.theory.specs.tables.KeepingStarts.{earliest_same, latest_same}
 use Rattle.theory.specs.tables.LatestTurned.{asap_alap}
 use Rattle.theory.specs.refusals.FirstRefusal.{first_end, first_none_append}
 use Rattle.theory.specs.refusals.SoundGraph.{closed}
-use Rattle.latency.specs.LaterAndDifferences.{Under, Differences}
+use Rattle.latency.specs.Differences.{Under, Differences}
 use Rattle.admission.specs.Admitted.{placed_checks, bound_checks, placed_within_checks, StartsRow, Admitted}
 use Rattle.admission.specs.AdmissionLaws.{admitted_matched, matches_none, admitted_refused, admitted_first, admitted_starts, admitted_given, admitted_fills, admitted_sound, admitted_room, bound_low, bound_within}
 use Rattle.tables.specs.LatestRow.{RoomWithin, LatestRow}

@@ -2,22 +2,14 @@
 #![tactic(auto)]
 
 ghost use Rattle.std.specs.Prelude.{◌≡◌, ◌+◌, ◌≤◌, length};
-ghost use Rattle.maths.specs.Count.{bit};
 ghost use Rattle.theory.specs.unit_use.RunningInNumbers.{runs_for};
 ghost use Rattle.unit_use.specs.FirstInUse.{first_in_use};
 
-// 1 if an operation of type `own` that starts at `start` and keeps its unit for `busy` steps is of type `kind` and running at `step`, else 0.
-fn runs(own: u8, start: u16, busy: u8, kind: u8, step: u16) -> usize
-    ensures { result ≡ bit (runs_for own start (start + busy) kind step) }
+// Whether an operation of type `own` that starts at `start` and keeps its unit for `busy` steps is of type `kind` and running at `step`.
+fn runs(own: u8, start: u16, busy: u8, kind: u8, step: u16) -> bool
+    ensures { result ≡ runs_for own start (start + busy) kind step }
 {
-    if own == kind {
-        if start <= step {
-            if (step as usize) < start as usize + busy as usize {
-                return 1;
-            }
-        }
-    }
-    0
+    own == kind && start <= step && (step as usize) < start as usize + busy as usize
 }
 
 // How many of the first `first` operations are of type `kind` and running at `step`.
@@ -26,10 +18,10 @@ pub fn in_use(busy: &[u8], types: &[u8], starts: &[u16], kind: u8, step: u16, fi
     ensures { result ≡ first_in_use busy.now types.now starts.now kind step first }
 {
     let mut count = 0;
-    let mut i = 0;
-    while i < first {
-        count += runs(types[i], starts[i], busy[i], kind, step);
-        i += 1;
+    for i in 0..first {
+        if runs(types[i], starts[i], busy[i], kind, step) {
+            count += 1;
+        }
     }
     count
 }

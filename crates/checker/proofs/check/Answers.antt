@@ -1,21 +1,30 @@
--- `checker::check` meets its contract: refused, it hands the refusal on; else what no refusal leaves is what `judge` requires.
-use Rattle.theory.specs.refusals.RefusalNumbers.{first_told}
+-- `check` meets its contract: refused, it hands the refusal on; else what no refusal leaves is what `judge` requires.
+use Rattle.std.proofs.lemmas.Result.{err_from_is_err_and}
 use Rattle.theory.specs.unit_use.BusyTimes.{busy_lent}
-use Rattle.model.specs.Verdicts.{Finds}
-use Rattle.checker.proofs.Refused.{check_askable}
+use Rattle.model.specs.Verdicts.{Reports}
+use Rattle.checker.proofs.Refused.{check_sound, check_units, check_starts, check_bound}
 use Rattle.checker.proofs.check.Goals as goal
 
-pub judge-requires : goal.judge-requires
-judge-requires c =
-    let askable = check_askable _ _ _ _ (first_told _ c.in-Done.is c.check_fault-fault.ensures) in
-    record { askable = askable; busy_sound = busy_lent askable.sound }
+pub returns-in_err-check_fault : goal.returns-in_err-check_fault
+unfolding Reports
+returns-in_err-check_fault c =
+    let given = err_from_is_err_and c.from_residual.result c.from_residual.ensures.1 in
+    rw (given.1, given.2) (record { first = c.in_err-check_fault.ensures; finds = tt })
 
-pub returns-in-Refused : goal.returns-in-Refused
-unfolding Finds
-returns-in-Refused c = record { first = first_told _ c.in-Refused.is c.check_fault-fault.ensures; finds = tt }
+pub invariant_of-work : goal.invariant_of-work
+invariant_of-work c =
+    let sound = rw (← check_units _ _ _ _ c.in_ok-check_fault.ensures) at (check_sound _ _ _ _ c.in_ok-check_fault.ensures) in
+    record { sound = sound; busy_sound = busy_lent sound }
 
-pub returns-in-Done : goal.returns-in-Done
-returns-in-Done c = record {
-  first = rw c.judge.ensures.asked (first_told _ c.in-Done.is c.check_fault-fault.ensures);
-  finds = c.judge.ensures.finds;
+pub judge-requires-clause-starts_len : goal.judge-requires-clause-starts_len
+judge-requires-clause-starts_len c = check_starts _ _ _ _ c.in_ok-check_fault.ensures
+
+pub judge-requires-clause-bound_in : goal.judge-requires-clause-bound_in
+judge-requires-clause-bound_in c = check_bound _ _ _ _ c.in_ok-check_fault.ensures
+
+pub returns : goal.returns
+unfolding Reports
+returns c = record {
+  first = c.in_ok-check_fault.ensures;
+  finds = rw (check_units _ _ _ _ c.in_ok-check_fault.ensures) at c.judge.ensures;
 }

@@ -1,32 +1,26 @@
--- `checker::untimely` meets its contract: none of the operations passed is untimely.
+-- `untimely` answers the lowest untimely operation: one passed starts from 1 on and is over within the bound.
 use Rattle.std.proofs.Common.{arith}
-use Rattle.maths.specs.Search.{passed_none, passed_step, passed_found, passed_end}
+use Rattle.maths.specs.Search.{none_further}
 use Rattle.theory.specs.unit_use.OneVerdict.{timely_operation}
 use Rattle.model.specs.Faults as fault
 use Rattle.checker.proofs.untimely.Goals as goal
-
-pub loop-i-init : goal.loop-i-init
-loop-i-init c = λ busy types kinds from to. passed_none
-
-pub overflow_cast-start : goal.overflow_cast-start
-overflow_cast-start c = omega (arith, c.type_inv.starts c.loop-i.i)
+use Rattle.checker.proofs.untimely.Goals.{then-start-eq0-via-then-start-eq0, then-start-eq0-via-else-start-eq0+then-bound-start}
 
 pub returns-then-start-eq0 : goal.returns-then-start-eq0
-returns-then-start-eq0 c = λ busy types kinds from to. passed_found (c.loop-i.invariant busy types kinds from to) (fault.unplaced c.if-start-eq0.true)
-
-pub overflow_cast-delays : goal.overflow_cast-delays
-overflow_cast-delays c = omega (arith, c.type_inv.delays c.loop-i.i)
-
-pub overflow_add-start : goal.overflow_add-start
-overflow_add-start c = omega (arith, c.type_inv.starts c.loop-i.i, c.type_inv.delays c.loop-i.i)
-
-pub returns-then-bound-start : goal.returns-then-bound-start
-returns-then-bound-start c = λ busy types kinds from to. passed_found (c.loop-i.invariant busy types kinds from to) (fault.late (omega arith))
+returns-then-start-eq0 c = λ busy types kinds from to.
+    record {
+      inside = omega arith;
+      holds =
+          elim c.then-start-eq0.branch [
+            | then-start-eq0-via-then-start-eq0 w ↦ fault.unplaced w.if-start-eq0.true
+            | then-start-eq0-via-else-start-eq0+then-bound-start w ↦ fault.late (omega (arith, w.if-bound-start.true, w.if-start-eq0.false))
+          ];
+      none_before = c.loop-i.invariant busy types kinds from to;
+    }
 
 pub loop-i-preserved : goal.loop-i-preserved
 loop-i-preserved c = λ busy types kinds from to.
-    passed_step (c.loop-i.invariant busy types kinds from to) (omega arith)
-    (timely_operation (omega arith) (omega arith))
+    none_further (c.loop-i.invariant busy types kinds from to) (timely_operation (omega arith) (omega arith))
 
 pub returns : goal.returns
-returns c = λ busy types kinds from to. passed_end (c.loop-i.invariant busy types kinds from to) c.loop-i-test.false
+returns c = λ busy types kinds from to k l. c.loop-i.invariant busy types kinds from to k (omega arith)

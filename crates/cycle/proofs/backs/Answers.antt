@@ -1,47 +1,25 @@
--- `cycle::backs` meets its contract: after each edge the row has the lowest found so far, which `backed_step` carries over one edge more.
-use Rattle.std.proofs.Common.{◌<◌, arith, le_antisymm}
+-- An edge from a kept operation makes the row's number at its end the lower of that and its own.
+use Rattle.std.proofs.Common.{◌≡◌, ℕ, ◌+◌, ◌<◌, List, length, set, min, ap, ◌∙◌, subst, arith}
+use Rattle.std.proofs.lemmas.List.{length_push}
+use Rattle.std.proofs.lemmas.Slice.Zip.{zip_turn}
 use Rattle.maths.specs.Rows.{at}
-use Rattle.theory.specs.cycle.LowestPredecessors.{backed_none, backed_step}
 use Rattle.model.specs.Limits as limit
+use Rattle.theory.specs.cycle.LowestPredecessors.{Backed, backed_none, backed_step}
 use Rattle.cycle.proofs.backs.Goals as goal
-use Rattle.cycle.proofs.backs.Goals.{In-loop-e}
 
--- both ends of the edge are below the limit
-source_low : (c : In-loop-e) → at c.args.from.now c.loop-e.e < limit.operations
-source_low c = c.requires.source_in c.loop-e.e c.loop-e-test.true
+-- one edge more, by its ends
+backed_lower : {from to back : List ℕ} {P : ℕ → Type 0} {e n source target v : ℕ} → Backed from to P back e → source ≡ at from e → target ≡ at to e → at to e < limit.operations
+    → P source → v ≡ min (at back target) source → n ≡ e + 1 → Backed from to P (set back target v) n
+backed_lower {back = back} {P = P} h p q low holds is long =
+    let there = ap (at back) q in
+    rw (q, long) (backed_step h low (record { under_old = omega arith; under_new = λ _. omega arith; is_new = λ l. omega arith; has = λ l. subst P p holds }))
 
-target_low : (c : In-loop-e) → at c.args.to.now c.loop-e.e < limit.operations
-target_low c = c.requires.target_in c.loop-e.e c.loop-e-test.true
+pub loop-source-init : goal.loop-source-init
+loop-source-init c = backed_none
 
-pub loop-e-init : goal.loop-e-init
-loop-e-init c = (omega arith, backed_none)
-
-pub overflow_cast-target : goal.overflow_cast-target
-overflow_cast-target c = omega (arith, c.type_inv.to c.loop-e.e)
-
-pub overflow_cast-source : goal.overflow_cast-source
-overflow_cast-source c = omega (arith, c.type_inv.from c.loop-e.e)
-
-pub offset_bounds-starts-source : goal.offset_bounds-starts-source
-offset_bounds-starts-source c = omega (arith, source_low (goal.at.offset_bounds-starts-source c).In-loop-e)
-
-pub bounds-starts-source : goal.bounds-starts-source
-bounds-starts-source c = omega (arith, source_low (goal.at.bounds-starts-source c).In-loop-e)
-
-pub offset_bounds-back-target : goal.offset_bounds-back-target
-offset_bounds-back-target c = omega (arith, target_low (goal.at.offset_bounds-back-target c).In-loop-e)
-
-pub bounds-back-target : goal.bounds-back-target
-bounds-back-target c = omega (arith, target_low (goal.at.bounds-back-target c).In-loop-e)
-
-pub offset_bounds-back-target-in-loop-e : goal.offset_bounds-back-target-in-loop-e
-offset_bounds-back-target-in-loop-e c = omega (arith, target_low (goal.at.offset_bounds-back-target-in-loop-e c).In-loop-e)
-
-pub bounds-back-target-in-loop-e : goal.bounds-back-target-in-loop-e
-bounds-back-target-in-loop-e c = omega (arith, target_low (goal.at.bounds-back-target-in-loop-e c).In-loop-e)
-
-pub loop-e-preserved : goal.loop-e-preserved
-loop-e-preserved c = (omega arith, backed_step c.loop-e.invariant.1 (target_low (goal.at.loop-e-preserved c).In-loop-e) c.lower.ensures)
-
-pub returns : goal.returns
-returns c = rw (← le_antisymm c.loop-e.invariant.0 c.loop-e-test.false) c.loop-e.invariant.1
+pub loop-source-preserved-then-starts-from-eq0 : goal.loop-source-preserved-then-starts-from-eq0
+loop-source-preserved-then-starts-from-eq0 c =
+    let order = c.args.order.now in
+    let e = c.loop-source.yielded in
+    let t = zip_turn order.from.now order.to.now e c.into_iter-source-iterator.result c.loop-source.source-iterator c.next.new.self _ (cc) (cc) c.loop-source.yielded_by _ c.in-Some.is c.next.ensures.steps in
+    backed_lower c.loop-source.invariant (t.2 0) (c.from-target.ensures ∙ t.3 0) (omega (arith, order.closed.target_in (length e) t.0, order.closed.few)) (rw c.from.ensures at c.if-starts-from-eq0.true) (cc) (length_push e _)

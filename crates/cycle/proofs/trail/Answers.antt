@@ -1,9 +1,6 @@
 -- `cycle::trail` meets its contract: the row of `backs` leads from each kept operation to its lowest kept predecessor, so the walk is the trail.
-use Rattle.cycle.proofs.Showing.{ends, stays, trailed}
+use Rattle.cycle.proofs.Showing.{stays, trailed}
 use Rattle.cycle.proofs.trail.Goals as goal
-
-pub backs-back-requires : goal.backs-back-requires
-backs-back-requires c = ends c.args.order.now.closed
 
 pub walk-requires : goal.walk-requires
 walk-requires c =

@@ -4,8 +4,8 @@ use Rattle.model.specs.Order.{ordered}
 use Rattle.earliest.proofs.Rounds.{RoundsSoFar}
 use Rattle.earliest.proofs.earliest.Given as goal
 
-abbrev pub invariant-loop-links : goal.invariant-loop-links
-invariant-loop-links l = RoundsSoFar (ordered l.weights l.from l.to) l.starts l.links.row l.total
+abbrev pub invariant-loop-order : goal.invariant-loop-order
+invariant-loop-order l = RoundsSoFar (ordered l.weights l.from l.to) l.starts l.total
 
-abbrev pub decreases-loop-links : goal.decreases-loop-links
-decreases-loop-links l = length l.weights - l.total
+abbrev pub decreases-loop-order : goal.decreases-loop-order
+decreases-loop-order l = length l.weights - l.total

@@ -1,16 +1,8 @@
--- The invariant is the promise itself, of the entries passed.
-use Rattle.std.proofs.Common.{◌≡◌, arith, rules}
-use Rattle.latency.proofs.Differing.{differences_none, differences_step}
+-- Before the first entry the row is zeros.
+use Rattle.std.proofs.Common.{rules, arith}
+use Rattle.maths.specs.Rows.{blank}
+use Rattle.model.specs.Limits as limit
 use Rattle.latency.proofs.differences.Goals as goal
 
 pub loop-i-init : goal.loop-i-init
-loop-i-init c = (search rules, differences_none _ _)
-
-pub overflow_sub-row : goal.overflow_sub-row
-overflow_sub-row c = omega (arith, c.requires.under c.loop-i.i c.loop-i-test.true)
-
-pub loop-i-preserved : goal.loop-i-preserved
-loop-i-preserved c = (search rules, differences_step _ _ _ _ (omega arith) c.loop-i.invariant.1)
-
-pub returns : goal.returns
-returns c = let e : c.loop-i.i ≡ c.args.n = omega arith in rw e at c.loop-i.invariant.1
+loop-i-init c = record { long = search rules; less = λ i l. absurd (omega arith); rest = λ i l. blank limit.operations i }

@@ -1,41 +1,63 @@
--- `lister::ask` meets its contract: what admission refuses, then the windows, then what the search found.
-use Rattle.lister.proofs.Asking.{ask_refused, ask_latest, ask_windows, ask_many, ask_sized, ask_sought}
+-- What admission refuses is refused, then by the windows; and else the search answers.
+use Rattle.std.proofs.lemmas.Result.{err_from_is_err_and}
+use Rattle.model.specs.Lent.{graph_in}
+use Rattle.lister.proofs.Asking.{matched_as, ask_refused, ask_closed, ask_low, ask_within, ask_ends, ask_sound, ask_busy, ask_reaches, ask_room, ask_windows, ask_many, ask_sought}
 use Rattle.lister.proofs.ask.Goals as goal
 
-pub placed_with_units_within-begun-requires : goal.placed_with_units_within-begun-requires
-placed_with_units_within-begun-requires c = c.requires.counts
+pub returns-in_err-early : goal.returns-in_err-early
+returns-in_err-early c =
+    let given = err_from_is_err_and c.from_residual.result c.from_residual.ensures.1 in
+    let m = matched_as (graph_in c.args.graph.now) c.args.units.now c.args.after c.rows_match-matched.ensures in
+    rw (given.1, given.2) (ask_refused c.args.graph.now _ c.args.bound _ m c.in_err-early.ensures)
+
+pub invariant_of-order : goal.invariant_of-order
+invariant_of-order c =
+    let m = matched_as (graph_in c.args.graph.now) c.args.units.now c.args.after c.rows_match-matched.ensures in
+    record { closed = ask_closed c.args.graph.now _ c.args.bound _ m c.in_ok-early.ensures }
 
 pub latest-late-requires : goal.latest-late-requires
 latest-late-requires c =
-    let a = c.args in
-    let begun = c.placed_with_units_within-begun.ensures in let asked = ask_latest a.delays.now a.types.now a.kinds a.from.now a.to.now a.units.now a.bound c.requires begun c.in-Done.is in record { closed = asked.0; bound_le_steps = asked.1.0; room_within = asked.1.1 }
+    let m = matched_as (graph_in c.args.graph.now) c.args.units.now c.args.after c.rows_match-matched.ensures in
+    record {
+      bound_le_steps = ask_low c.args.graph.now _ c.args.bound _ m c.in_ok-early.ensures;
+      room_within = ask_within c.args.graph.now _ c.args.bound _ m c.in_ok-early.ensures;
+    }
 
-pub too_many-requires : goal.too_many-requires
-too_many-requires c =
-    let a = c.args in
-    let begun = c.placed_with_units_within-begun.ensures in
-    ask_windows a.delays.now a.types.now a.kinds a.from.now a.to.now a.units.now a.bound c.requires begun c.in-Done.is c.latest-late.ensures
+pub higher_links-requires : goal.higher_links-requires
+higher_links-requires c =
+    let m = matched_as (graph_in c.args.graph.now) c.args.units.now c.args.after c.rows_match-matched.ensures in
+    ask_ends c.args.graph.now _ c.args.bound _ m c.in_ok-early.ensures
+
+pub invariant_of-job : goal.invariant_of-job
+invariant_of-job c =
+    let m = matched_as (graph_in c.args.graph.now) c.args.units.now c.args.after c.rows_match-matched.ensures in
+    record {
+      sound = ask_sound c.args.graph.now _ c.args.bound _ m c.in_ok-early.ensures;
+      busy_sound = ask_busy c.args.graph.now _ c.args.bound _ m c.in_ok-early.ensures;
+    }
+
+pub invariant_of-job-2 : goal.invariant_of-job-2
+invariant_of-job-2 c =
+    let m = matched_as (graph_in c.args.graph.now) c.args.units.now c.args.after c.rows_match-matched.ensures in
+    record {
+      linked = c.higher_links.ensures;
+      windows = ask_windows c.args.graph.now _ c.args.bound _ m c.in_ok-early.ensures c.latest-late.ensures;
+    }
 
 pub returns-then-too_many : goal.returns-then-too_many
 returns-then-too_many c =
-    let a = c.args in
-    let begun = c.placed_with_units_within-begun.ensures in
-    ask_many a.delays.now a.types.now a.kinds a.from.now a.to.now a.units.now a.bound c.requires begun c.in-Done.is c.latest-late.ensures (c.too_many.ensures.yes c.if-too_many.true)
+    let m = matched_as (graph_in c.args.graph.now) c.args.units.now c.args.after c.rows_match-matched.ensures in
+    ask_many c.args.graph.now _ c.args.bound _ m c.in_ok-early.ensures c.latest-late.ensures (c.too_many.ensures.yes c.if-too_many.true)
 
 pub seek-requires : goal.seek-requires
 seek-requires c =
-    let a = c.args in
-    let begun = c.placed_with_units_within-begun.ensures in
-    ask_sized a.delays.now a.types.now a.kinds a.from.now a.to.now a.units.now a.bound c.requires begun c.in-Done.is c.latest-late.ensures
+    let m = matched_as (graph_in c.args.graph.now) c.args.units.now c.args.after c.rows_match-matched.ensures in
+    record {
+      reaches = ask_reaches c.args.graph.now _ c.args.bound _ m c.in_ok-early.ensures;
+      room = ask_room c.args.graph.now _ c.args.bound _ m c.in_ok-early.ensures;
+    }
 
-pub returns-in-Refused : goal.returns-in-Refused
-returns-in-Refused c =
-    let a = c.args in
-    let begun = c.placed_with_units_within-begun.ensures in
-    ask_refused a.delays.now a.types.now a.kinds a.from.now a.to.now a.units.now a.bound c.requires begun c.in-Refused.is
-
-pub returns-else-too_many : goal.returns-else-too_many
-returns-else-too_many c =
-    let a = c.args in
-    let begun = c.placed_with_units_within-begun.ensures in
-    ask_sought a.delays.now a.types.now a.kinds a.from.now a.to.now a.units.now a.bound c.requires begun c.in-Done.is c.latest-late.ensures (c.too_many.ensures.none c.if-too_many.false) c.seek.ensures
+pub returns : goal.returns
+returns c =
+    let m = matched_as (graph_in c.args.graph.now) c.args.units.now c.args.after c.rows_match-matched.ensures in
+    ask_sought c.args.graph.now _ c.args.bound _ m c.in_ok-early.ensures c.latest-late.ensures (c.too_many.ensures.none c.if-too_many.false) c.seek.ensures

@@ -1,27 +1,22 @@
--- `peak_use::peak_use` meets its contract: refused, the numbers are zeros; else each is its type's peak.
+-- `peak_use` meets its contract: what admission refuses, or else each type's peak.
 use Rattle.std.proofs.Common.{refl}
+use Rattle.std.proofs.lemmas.Result.{err_from_is_err_and}
 use Rattle.model.specs.Verdicts.{Counts}
-use Rattle.theory.specs.refusals.RefusalNumbers.{first_told}
 use Rattle.peak_use.proofs.Refused.{peak_told, peak_countable}
 use Rattle.peak_use.proofs.peak_use.Goals as goal
 
+pub returns-in_err-graph : goal.returns-in_err-graph
+unfolding Counts
+returns-in_err-graph c =
+    let given = err_from_is_err_and c.from_residual.result c.from_residual.ensures.1 in
+    rw (given.1, given.2) (record { first = peak_told _ c.args.starts.now _ c.in_err-graph.ensures; counts = tt })
+
 pub peaks-requires : goal.peaks-requires
-peaks-requires c = peak_countable _ _ _ _ _ _ (peak_told _ c.args.starts.now _ (first_told _ c.in-Done.is c.graph-fault.ensures))
+peaks-requires c = peak_countable _ _ _ _ _ _ (peak_told _ c.args.starts.now _ c.in_ok-graph.ensures)
 
-pub returns-in-Refused : goal.returns-in-Refused
+pub returns : goal.returns
 unfolding Counts
-returns-in-Refused c = record {
-  first = peak_told _ c.args.starts.now _ (first_told _ c.in-Refused.is c.graph-fault.ensures);
-  long = refl;
-  counts = refl;
+returns c = record {
+  first = peak_told _ c.args.starts.now _ c.in_ok-graph.ensures;
+  counts = c.peaks.ensures _ _ _ _ refl;
 }
-
-pub returns-in-Done : goal.returns-in-Done
-unfolding Counts
-returns-in-Done c =
-    let all = c.peaks.ensures _ _ _ _ refl in
-    record {
-      first = peak_told _ c.args.starts.now _ (first_told _ c.in-Done.is c.graph-fault.ensures);
-      long = all.long;
-      counts = all.each;
-    }

@@ -1,33 +1,11 @@
--- `peak_use::peaks` meets its contract: each number is the largest count at the starts passed, and a maximum is met at a start.
+-- `peaks` answers each type's peak: each number is the largest count at the starts passed, and a maximum is met at a start.
 use Rattle.std.proofs.Common.{ℕ, ap, arith, length}
 use Rattle.maths.specs.Rows.{at}
 use Rattle.model.specs.Graph.{graph_of, type_of}
 use Rattle.theory.specs.unit_use.RunningAndPeak.{running_first}
 use Rattle.unit_use.specs.FirstInUse.{in_use_is}
-use Rattle.peak_use.proofs.Peaked.{peaked_none, peaked_step, peaked_end}
+use Rattle.peak_use.proofs.Peaked.{peaked_step, peaked_end}
 use Rattle.peak_use.proofs.peaks.Goals as goal
-
-pub loop-i-init : goal.loop-i-init
-loop-i-init c = λ delays kinds from to e. peaked_none
-
-pub overflow_cast-kind : goal.overflow_cast-kind
-overflow_cast-kind c = omega (arith, c.type_inv.types c.loop-i.i)
-
-pub in_use-now-requires : goal.in_use-now-requires
-in_use-now-requires c =
-    (omega arith, omega (arith, c.requires.even_types), omega (arith, c.requires.even_starts))
-
-pub offset_bounds-counts-kind : goal.offset_bounds-counts-kind
-offset_bounds-counts-kind c = omega (arith, c.requires.type_in c.loop-i.i c.loop-i-test.true)
-
-pub bounds-counts-kind : goal.bounds-counts-kind
-bounds-counts-kind c = c.requires.type_in c.loop-i.i c.loop-i-test.true
-
-pub offset_bounds-counts-kind-in-loop-i : goal.offset_bounds-counts-kind-in-loop-i
-offset_bounds-counts-kind-in-loop-i c = omega (arith, c.requires.type_in c.loop-i.i c.loop-i-test.true)
-
-pub bounds-counts-kind-in-loop-i : goal.bounds-counts-kind-in-loop-i
-bounds-counts-kind-in-loop-i c = c.requires.type_in c.loop-i.i c.loop-i-test.true
 
 pub loop-i-preserved : goal.loop-i-preserved
 loop-i-preserved c = λ delays kinds from to e.
@@ -35,8 +13,8 @@ loop-i-preserved c = λ delays kinds from to e.
     let here = c.loop-i in
     let g = graph_of delays a.busy.now a.types.now kinds from to in
     let t = a.starts.now in
-    peaked_step (here.invariant delays kinds from to e) (omega (arith, c.loop-i-test.true)) (c.requires.type_in c.loop-i.i c.loop-i-test.true)
-    (omega (arith, c.larger.ensures, c.in_use-now.ensures, in_use_is g t (type_of g here.i) (at t here.i) (length a.busy.now), ap (λ (m : ℕ). running_first g t m (type_of g here.i) (at t here.i)) e))
+    peaked_step (here.invariant delays kinds from to e) (omega arith) (c.requires.type_in c.loop-i.i (omega arith))
+    (omega (arith, c.max.ensures, c.in_use-now.ensures, in_use_is g t (type_of g here.i) (at t here.i) (length a.busy.now), ap (λ (m : ℕ). running_first g t m (type_of g here.i) (at t here.i)) e))
 
 pub returns : goal.returns
-returns c = λ delays kinds from to e. peaked_end (c.loop-i.invariant delays kinds from to e) (omega (arith, c.loop-i-test.false))
+returns c = λ delays kinds from to e. peaked_end (c.loop-i.invariant delays kinds from to e) (omega arith)

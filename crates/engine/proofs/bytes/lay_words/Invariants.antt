@@ -1,10 +1,6 @@
--- `lay_words` writes the row entry by entry.
-use Rattle.std.proofs.Common.{◌-◌}
-use Rattle.engine.proofs.Laying.{Writing}
+-- `lay_words` has written as many entries as it has passed.
+use Rattle.engine.specs.Laid.{WordsLaid}
 use Rattle.engine.proofs.bytes.lay_words.Given as goal
 
 abbrev pub invariant-loop-i : goal.invariant-loop-i
-invariant-loop-i l = Writing l.row l.count l.initial.bytes l.at l.bytes l.i
-
-abbrev pub decreases-loop-i : goal.decreases-loop-i
-decreases-loop-i l = l.count - l.i
+invariant-loop-i l = WordsLaid l.row l.i l.initial.bytes l.at l.bytes

@@ -1,14 +1,12 @@
--- `ask` goes by the question's number.
-use Rattle.std.proofs.Common.{sym, subst, arith}
+-- `ask` replies to the question that has the number.
+use Rattle.std.proofs.Common.{sym, ap, ◌∙◌}
 use Rattle.engine.specs.Dispatch.{Answers}
-use Rattle.engine.proofs.Asking.{unasked_is}
+use Rattle.engine.specs.Numbers.{number_of}
+use Rattle.engine.specs.declared.question.Question.TheVariants as questions
 use Rattle.engine.proofs.dispatch.ask.Goals as goal
 
-pub returns-then-question-eq0 : goal.returns-then-question-eq0
-returns-then-question-eq0 c = Answers.unasked (unasked_is c.unasked.ensures (omega arith))
+pub returns-in-Graph : goal.returns-in-Graph
+returns-in-Graph c = Answers.replied (questions.Graph c.in-Graph.question) (sym (ap number_of c.in-Graph.is) ∙ c.in_ok-question.ensures) c.graph_question.ensures
 
-pub returns-then-question-gt10 : goal.returns-then-question-gt10
-returns-then-question-gt10 c = Answers.unasked (unasked_is c.unasked-then-question-gt10.ensures (omega arith))
-
-pub returns-then-question-eq10 : goal.returns-then-question-eq10
-returns-then-question-eq10 c = subst (Answers _ _ _) (sym c.if-question-eq10.true) c.view_question.ensures
+pub returns-in-View : goal.returns-in-View
+returns-in-View c = Answers.replied questions.View (sym (ap number_of c.in-View.is) ∙ c.in_ok-question.ensures) c.view.ensures

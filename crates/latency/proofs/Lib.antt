@@ -1,2 +1,0 @@
-mod LastStep
-mod Differing
