@@ -19,11 +19,11 @@ use Rattle.list_step.specs.Priority.{rank_of, Priority}
 use Rattle.list_step.specs.RankLaws.{TurnOf, turn, lower, before, one_rank, rank_inside}
 
 -- i is a candidate, and of its type's units not all are used
-abbrev pub takes_at : Graph → List ℕ → ℕ → ℕ → ℕ → ℕ → Bool
+abbrev takes_at : Graph → List ℕ → ℕ → ℕ → ℕ → ℕ → Bool
 takes_at g t l i used units = candidate g t l i and ltb used units
 
 -- what in_use tells of the starts t before the pass
-pub used_counts : (g : Graph) (t : List ℕ) (l : ℕ) (used : List ℕ) → CountsByValue (at g.types) (uses_at g.busy t l) limit.kinds used (many g)
+used_counts : (g : Graph) (t : List ℕ) (l : ℕ) (used : List ℕ) → CountsByValue (at g.types) (uses_at g.busy t l) limit.kinds used (many g)
     → (k : ℕ) → k < limit.kinds → at used k ≡ in_use g t k l
 unfolding runs
 used_counts g t l used h k b =
@@ -245,7 +245,7 @@ module _ {g : Graph} {units row t : List ℕ} {l : ℕ} {used x : List ℕ} {p :
     kind = type_of g now
 
     -- it takes a unit exactly when the rule starts it
-    pub takes_now : takes_at g x l now (at used kind) (at units kind) ≡ starts_now g labels units t l now
+    takes_now : takes_at g x l now (at used kind) (at units kind) ≡ starts_now g labels units t l now
     takes_now =
         let here = turn_of u in
         ap (λ (c : Bool). c and ltb (at used kind) (at units kind)) (candidate_same now here.inside (h.todo now here.inside (omega (arith, here.is))))
