@@ -115,7 +115,7 @@ module _ (lends : graph.Graph) (units : List ℕ) where
           })
 
 -- ---- the advance's ways out
-module _ (g : Graph) (units t : List ℕ) (step : ℕ) where
+module _ {g : Graph} {units t : List ℕ} {step : ℕ} where
   pub advance_refused : {r : ℕ × ℕ} → First (graph_unit_checks g (eqb (length units) g.kinds ≡ false) units) (some r) → AdvanceAnswer g units t step (some r) t step
   unfolding StateAfter
   advance_refused {r} h = record {

@@ -1,11 +1,7 @@
--- The loop of `schedule`: before step l the starts are those after l - 1 advances from fresh; while not all are placed, l is within the steps.
-use mathlib.Core.Path.{◌≡◌, refl, sym, ap, subst, ◌∙◌}
-use mathlib.Core.Logic.{⊎_elim}
-use mathlib.Core.List.{List}
-use Prim.Native.Nat.{ℕ, suc, ◌+◌, ◌≤◌}
-use native.Mathlib.Omega.{arith}
-use lib.ListN.{length, take, replicate, length-replicate}
-use Rattle.maths.specs.Cases.{lt_or_le}
+-- The loop of `schedule`: before step l the starts are those after l - 1 advances from fresh; after the last step all are placed.
+use Rattle.std.specs.Prelude.{◌≡◌, refl, List, ℕ, suc, ◌+◌, ◌≤◌, ◌<◌, length, take, replicate}
+use Rattle.std.proofs.Common.{sym, ap, subst, ◌∙◌, arith}
+use Rattle.std.proofs.lemmas.List.{length-replicate}
 use Rattle.maths.specs.Rows.{at, blank}
 use Rattle.model.specs.Limits as limit
 use Rattle.model.specs.Order.{Cyclic}
@@ -54,20 +50,12 @@ going_none h = record {
 }
 
 module _ {g : Graph} {units t : List ℕ} {step : ℕ} (h : Going g units t step) where
-  pub going_from : 1 ≤ step
-  going_from = omega (arith, h.next)
-
-  pub going_within : Doable g units → (Full (many g) t → ⊥) → step ≤ limit.steps
-  going_within can not =
-      ⊎_elim
-      (λ l. omega (arith, h.next))
-      (λ l.
+  -- after the last step all are placed
+  pub going_full : Doable g units → limit.steps < step → Full (many g) t
+  going_full can past =
       let whole = all_placed g h.labels units can in
-      absurd
-      (not
-      (full_all g t
-      (subst (AllPlaced g) (sym (h.is ∙ after_stable g h.labels units limit.steps h.rounds l whole)) whole))))
-      (lt_or_le h.rounds limit.steps)
+      let same = h.is ∙ after_stable g h.labels units limit.steps h.rounds (omega (arith, h.next)) whole in
+      full_all g t (subst (AllPlaced g) (sym same) whole)
 
   pub going_step : {t' : List ℕ} → Moves g units t step t' (step + 1) → Going g units t' (step + 1)
   unfolding after

@@ -32,7 +32,7 @@ fn full(starts: &[u16; OPERATIONS], n: usize) -> bool
     !starts[..n].contains(&0)
 }
 
-// The rule at step 1, 2, 3 and so on, from nothing placed until all are.
+// The rule at step 1, 2, 3 and so on, from nothing placed until all are, which they are after the last step at the latest.
 fn schedule(work: &Work) -> [u16; OPERATIONS]
     requires { Doable (work_in work.now) work.now.units.now }
     ensures { ListRow (work_in work.now) work.now.units.now result }
@@ -45,10 +45,11 @@ fn schedule(work: &Work) -> [u16; OPERATIONS]
     let links = edge_links::link(work.to);
     let ranked = list_step::priority::ranks(&order);
     let mut starts = [0u16; OPERATIONS];
-    let mut step = 1;
-    while !full(&starts, work.delays.len()) {
+    for step in 1..=STEPS {
+        if full(&starts, work.delays.len()) {
+            break;
+        }
         list_step::apply(work, &links, &ranked, step, &mut starts);
-        step += 1;
     }
     starts
 }

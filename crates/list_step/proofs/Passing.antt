@@ -4,7 +4,7 @@ use Rattle.std.proofs.Common.{sym, ap, subst, ◌∙◌, inl, inr, ⊎_elim, len
 use Rattle.maths.specs.Cases.{same_or_not, lt_or_le}
 use Rattle.maths.specs.Tests.{◌and◌, two, same_test, and_true, and_left, and_right, and_left_false, and_right_false}
 use Rattle.maths.specs.Rows.{at, same_row}
-use Rattle.maths.specs.Count.{bit, count, count_le}
+use Rattle.maths.specs.Count.{bit, count}
 use Rattle.maths.specs.Counting.{sum_change_below, count_same, count_zero}
 use Rattle.model.specs.Limits as limit
 use Rattle.model.specs.Order.{source}
@@ -19,11 +19,11 @@ use Rattle.list_step.specs.Priority.{rank_of, Priority}
 use Rattle.list_step.specs.RankLaws.{TurnOf, turn, lower, before, one_rank, rank_inside}
 
 -- i is a candidate, and of its type's units not all are used
-abbrev pub takes_at : Graph → List ℕ → ℕ → ℕ → ℕ → ℕ → Bool
+abbrev takes_at : Graph → List ℕ → ℕ → ℕ → ℕ → ℕ → Bool
 takes_at g t l i used units = candidate g t l i and ltb used units
 
 -- what in_use tells of the starts t before the pass
-pub used_counts : (g : Graph) (t : List ℕ) (l : ℕ) (used : List ℕ) → CountsByValue (at g.types) (uses_at g.busy t l) limit.kinds used (many g)
+used_counts : (g : Graph) (t : List ℕ) (l : ℕ) (used : List ℕ) → CountsByValue (at g.types) (uses_at g.busy t l) limit.kinds used (many g)
     → (k : ℕ) → k < limit.kinds → at used k ≡ in_use g t k l
 unfolding runs
 used_counts g t l used h k b =
@@ -169,24 +169,18 @@ passing_none {g} {units} {row} {t} {l} {used} s busy long h b = record {
 
 module _ {g : Graph} {units row t : List ℕ} {l : ℕ} {used x : List ℕ} {p : ℕ} (h : Passing g units row t l used x p) where
   -- the operation whose turn it is
-  pub turn_of : p < many g → TurnOf h.priority.labels (many g) p (at row p)
+  turn_of : p < many g → TurnOf h.priority.labels (many g) p (at row p)
   turn_of u = turn h.priority.labels (many g) row h.priority.ranked p u
 
-  pub operation_room : p < many g → at row p < limit.operations
+  -- it is one of the operations
+  pub turn_inside : {i : ℕ} → p < length g.types → i ≡ at row p → i < many g
+  turn_inside more is = omega (arith, is, (turn_of (omega (arith, h.sound.even_types))).inside)
+
+  operation_room : p < many g → at row p < limit.operations
   operation_room u = omega (arith, (turn_of u).inside, h.sound.few)
 
-  pub kind_room : p < many g → type_of g (at row p) < limit.kinds
+  kind_room : p < many g → type_of g (at row p) < limit.kinds
   kind_room u = omega (arith, h.sound.type_in (at row p) (turn_of u).inside, h.sound.few_kinds)
-
-  -- a counter is at most twice the operations
-  used_room : (k : ℕ) → k < limit.kinds → at used k ≤ many g + many g
-  used_room k u =
-      omega (
-        arith,
-        h.counts k u,
-        count_le (uses g t k l) (many g),
-        count_le (passed g h.priority.labels units t l k p) (many g),
-      )
 
   -- an operation's start so far is the old one, or it started now
   so_far : (j : ℕ) → j < many g → (at x j ≡ at t j) ⊎ ((at x j ≡ l) × (at t j ≡ 0))
@@ -251,7 +245,7 @@ module _ {g : Graph} {units row t : List ℕ} {l : ℕ} {used x : List ℕ} {p :
     kind = type_of g now
 
     -- it takes a unit exactly when the rule starts it
-    pub takes_now : takes_at g x l now (at used kind) (at units kind) ≡ starts_now g labels units t l now
+    takes_now : takes_at g x l now (at used kind) (at units kind) ≡ starts_now g labels units t l now
     takes_now =
         let here = turn_of u in
         ap (λ (c : Bool). c and ltb (at used kind) (at units kind)) (candidate_same now here.inside (h.todo now here.inside (omega (arith, here.is))))

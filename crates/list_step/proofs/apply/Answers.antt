@@ -1,6 +1,6 @@
 -- The loop keeps `Passing`: operations of a lower rank have had their turn.
 use Rattle.std.proofs.Common.{◌<◌, length, refl, arith, sym, ◌∙◌}
-use Rattle.list_step.proofs.Passing.{passing_none, turn_of, turn_starts, turn_barred, turn_full, passing_end}
+use Rattle.list_step.proofs.Passing.{passing_none, turn_inside, turn_starts, turn_barred, turn_full, passing_end}
 use Rattle.list_step.proofs.apply.Goals as goal
 use Rattle.list_step.proofs.apply.Goals.{then-left+then-is_candidate, else-left, else-left-via-then-left+else-is_candidate, else-left-via-else-left}
 
@@ -12,23 +12,20 @@ loop-turn-init c =
 pub bounds-work-i : goal.bounds-work-i
 bounds-work-i c =
     let h = c.loop-turn.invariant in
-    omega (arith, c.from-i.ensures, (turn_of h (omega (arith, h.sound.even_types))).inside, h.sound.even_types)
+    omega (arith, h.sound.even_types, turn_inside h (omega arith) c.from-i.ensures)
 
 pub bounds-work-kind : goal.bounds-work-kind
 bounds-work-kind c =
     let h = c.loop-turn.invariant in
-    let here = turn_of h (omega (arith, h.sound.even_types)) in
-    rw (c.from-kind.ensures, c.from-i.ensures) (h.sound.type_in _ here.inside)
+    rw c.from-kind.ensures (h.sound.type_in _ (turn_inside h (omega arith) c.from-i.ensures))
 
 pub is_candidate-requires-clause-i_in_bounds : goal.is_candidate-requires-clause-i_in_bounds
-is_candidate-requires-clause-i_in_bounds c =
-    let h = c.loop-turn.invariant in
-    omega (arith, c.from-i.ensures, (turn_of h (omega (arith, h.sound.even_types))).inside)
+is_candidate-requires-clause-i_in_bounds c = turn_inside c.loop-turn.invariant (omega arith) c.from-i.ensures
 
 pub bounds-starts-i : goal.bounds-starts-i
 bounds-starts-i c =
     let h = c.loop-turn.invariant in
-    omega (arith, c.from-i.ensures, (turn_of h (omega (arith, h.sound.even_types))).inside, h.sound.few)
+    omega (arith, h.sound.few, turn_inside h (omega arith) c.from-i.ensures)
 
 pub loop-turn-preserved : goal.loop-turn-preserved
 loop-turn-preserved c =
