@@ -25,7 +25,6 @@ use Rattle.theory.specs.unit_use.BusyTimes.{busy_lent}
 use Rattle.theory.specs.refusals.FirstRefusal.{first_none_append}
 use Rattle.theory.specs.refusals.SoundGraph.{closed}
 use Rattle.theory.specs.refusals.RowAfterwards.{WritesNothing}
-use Rattle.edge_links.specs.Linking.{LinkableEnds}
 use Rattle.admission.specs.Admitted.{placed_unit_checks, bound_checks, placed_unit_within_checks, StartsRow, Admitted, Matches}
 use Rattle.admission.specs.AdmissionLaws.{admitted_matched, matches_yes, matches_both, admitted_refused, admitted_first, admitted_kept, admitted_starts, admitted_late, admitted_given, admitted_sound, admitted_room, passed_own, bound_low, bound_within}
 use Rattle.tables.specs.LatestRow.{RoomWithin, LatestRow}
@@ -106,14 +105,6 @@ module _ (l : lent.Graph) (units : List ℕ) (bound : ℕ) (asked : Option (List
 
       pub ask_within : RoomWithin (order g) bound
       ask_within = record { row = s; keeps = early.is.keeps; within = bound_within (order g) bound bounded early }
-
-      -- its edges can be linked
-      pub ask_ends : LinkableEnds g.from × LinkableEnds g.to × (length g.from ≡ length g.to)
-      ask_ends = (
-        record { few = sound.few_edges; inside = λ e l. omega (arith, sound.source_in e l, sound.few) },
-        record { few = omega (arith, sound.few_edges, sound.even_ends); inside = λ e l. omega (arith, sound.target_in e (omega (arith, sound.even_ends)), sound.few) },
-        sound.even_ends,
-      )
 
       -- it is sound with as many types as there are unit counts
       pub ask_sound : Sound (graph_of g.delays g.delays g.types (length units) g.from g.to)

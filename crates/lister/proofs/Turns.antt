@@ -9,7 +9,6 @@ use Rattle.lister.specs.Lent.{asked_of}
 use mathlib.Core.Logic.{⊎_elim}
 use mathlib.Core.List.{List}
 use Prim.Native.Nat.{ℕ, ◌+◌, ◌<◌, ◌≤◌}
-use native.Mathlib.Nat.{not-suc-le-zero}
 use native.Mathlib.Omega.{arith}
 use borrow.Author.Count.{below_more}
 use lib.ListN.{length, set}
@@ -19,12 +18,12 @@ use Rattle.maths.specs.Tests.{clash}
 use Rattle.maths.specs.Rows.{at}
 use Rattle.maths.specs.Counting.{count_same}
 use Rattle.maths.specs.Words.{Same, Before}
-use Rattle.maths.specs.WordLaws.{same_none, same_refl, same_sym, same_trans, same_down, same_more, same_set, before_here, same_not_before, before_at}
+use Rattle.maths.specs.WordLaws.{same_refl, same_sym, same_trans, same_down, same_more, same_set, before_here, same_not_before, before_at}
 use Rattle.model.specs.Graph.{Graph, many}
 use Rattle.model.specs.Use.{runs}
 use Rattle.unit_use.specs.FirstInUse.{users, first_in_use}
 use Rattle.placement.specs.Fit.{EdgeKept, UnitsEnough, Fits}
-use Rattle.lister.specs.Search.{Job, Reaches, Placed, Ready, Completes, Searched, Begins, StaysEqual}
+use Rattle.lister.specs.Search.{Job, Placed, Ready, Completes, Searched, Begins, StaysEqual}
 
 -- ---- what stands up to i decides whether i fits
 in_use_local : (busy types : List ℕ) (k l m : ℕ) {a b : List ℕ} → Same m a b → first_in_use busy types a k l m ≡ first_in_use busy types b k l m
@@ -62,14 +61,6 @@ module _ {j : Job} {i : ℕ} where
     high = below_more (λ (k : ℕ). at s k ≤ at j.late k) i p.high high;
     fits = below_more (λ (k : ℕ). Fits j.graph j.units s k) i p.fits fits;
   }
-
--- nothing is placed
-pub placed_none : {j : Job} {s : List ℕ} → Placed j 0 s
-placed_none = record {
-  low = λ k h. absurd (not-suc-le-zero h);
-  high = λ k h. absurd (not-suc-le-zero h);
-  fits = λ k h. absurd (not-suc-le-zero h);
-}
 
 -- ---- all are placed
 -- a row that is as the row asked after does not come after it; any other that is complete is the one row that completes it
@@ -220,8 +211,3 @@ module _ {j : Job} {s₀ : List ℕ} {i : ℕ} {asked : Option (List ℕ)} where
               (λ h. absurd (f.none off q (onto c (omega (arith, w.passed q c)))))
               (lt_or_le t (at q i));
         }
-
--- nothing is placed yet
-pub ready_none : {j : Job} {s : List ℕ} {asked : Option (List ℕ)} → Reaches asked (many j.graph) → Ready j s 0 asked
-ready_none {j} {s} reaches =
-    record { inside = omega arith; placed = placed_none; reaches = reaches; same = λ row e. same_none row s }

@@ -46,11 +46,6 @@ room_starts busy types units t i own calms = record { enough = enough }
         (λ none. absurd (none i (omega arith) (record { kind = refl; started = a; unfinished = b })))
         (greatest (Runs u t k l) (at t) (i + 1) (λ j h. runs_or_not u t k l j))
 
--- and the other way round
-pub room_own : {busy types units t : List ℕ} {i : ℕ} → 1 ≤ at busy i → UnitsEnough busy types units t i
-    → first_in_use busy types t (at types i) (at t i) (i + 1) ≤ at units (at types i)
-room_own h r = r.enough _ (omega arith) (omega arith)
-
 -- enough all the while is enough at each start within the run
 pub room_calm : {busy types units t : List ℕ} {i : ℕ} (j : ℕ) → UnitsEnough busy types units t i → Calm busy types units t i j
 room_calm j r = record { calm = λ e a b. r.enough _ (omega arith) b }

@@ -1,7 +1,7 @@
 -- What admission refuses is refused, then by the windows; and else the search answers.
 use Rattle.std.proofs.lemmas.Result.{err_from_is_err_and}
 use Rattle.model.specs.Lent.{graph_in}
-use Rattle.lister.proofs.Asking.{matched_as, ask_refused, ask_closed, ask_low, ask_within, ask_ends, ask_sound, ask_busy, ask_reaches, ask_room, ask_windows, ask_many, ask_sought}
+use Rattle.lister.proofs.Asking.{matched_as, ask_refused, ask_closed, ask_low, ask_within, ask_sound, ask_busy, ask_reaches, ask_room, ask_windows, ask_many, ask_sought}
 use Rattle.lister.proofs.ask.Goals as goal
 
 pub returns-in_err-early : goal.returns-in_err-early
@@ -22,11 +22,6 @@ latest-late-requires c =
       bound_le_steps = ask_low c.args.graph.now _ c.args.bound _ m c.in_ok-early.ensures;
       room_within = ask_within c.args.graph.now _ c.args.bound _ m c.in_ok-early.ensures;
     }
-
-pub higher_links-requires : goal.higher_links-requires
-higher_links-requires c =
-    let m = matched_as (graph_in c.args.graph.now) c.args.units.now c.args.after c.rows_match-matched.ensures in
-    ask_ends c.args.graph.now _ c.args.bound _ m c.in_ok-early.ensures
 
 pub invariant_of-job : goal.invariant_of-job
 invariant_of-job c =

@@ -1,11 +1,7 @@
 -- The search answers for every row, and what it found is written.
 use Rattle.std.proofs.Common.{arith}
-use Rattle.lister.proofs.Turns.{ready_none}
 use Rattle.lister.proofs.Whole.{sought_found, sought_none}
 use Rattle.lister.proofs.seek.Goals as goal
-
-pub place-found-requires : goal.place-found-requires
-place-found-requires c = ready_none c.requires.reaches
 
 pub returns-then-found : goal.returns-then-found
 returns-then-found c =
