@@ -13,21 +13,17 @@ ghost use Rattle.model.specs.Graph.{order};
 ghost use Rattle.model.specs.Refusals.{First, large_bound};
 ghost use Rattle.model.specs.Answers.{refusal_of};
 ghost use Rattle.admission.specs.Admitted.{Admitted, graph_checks, graph_unit_checks, placed_checks, placed_unit_checks, placed_within_checks, placed_unit_within_checks};
+
 use model::Refusal;
 use model::graph::Graph;
 use model::limits::{OPERATIONS, STEPS};
-use model::order::Order;
 
 // Without an output row: refusals 1 to 4 and 7.
 pub fn graph(graph: &Graph, matched: bool) -> Result<(), Refusal>
     ensures { First (graph_checks (graph_in graph.now) (matched ≡ false)) (refusal_of result) }
 {
     shape::graph_fault(graph, matched)?;
-    precedence::cycle_fault(&Order {
-        weights: graph.delays,
-        from: graph.from,
-        to: graph.to,
-    })
+    precedence::cycle_fault(&graph.order())
 }
 
 // Without an output row, with units: refusals 1 to 4, 6 and 7.
@@ -36,11 +32,7 @@ pub fn graph_with_units(graph: &Graph, units: &[u8], matched: bool) -> Result<()
     ensures { First (graph_unit_checks (graph_in graph.now) (matched ≡ false) units.now) (refusal_of result) }
 {
     shape::graph_unit_fault(graph, units, matched)?;
-    precedence::cycle_fault(&Order {
-        weights: graph.delays,
-        from: graph.from,
-        to: graph.to,
-    })
+    precedence::cycle_fault(&graph.order())
 }
 
 // With an output row: refusals 1 to 5 and 7, or the earliest starts. A cycle is shown in `out`; any other refusal leaves it, and so does a pass.
@@ -48,14 +40,7 @@ pub fn placed(graph: &Graph, matched: bool, out: &mut [u16]) -> Result<[u16; OPE
     ensures { Admitted (order (graph_in graph.now)) (placed_checks (graph_in graph.now) (matched ≡ false) (length out.old)) out.old result out.new }
 {
     shape::front(graph, matched, out.len())?;
-    precedence::place(
-        &Order {
-            weights: graph.delays,
-            from: graph.from,
-            to: graph.to,
-        },
-        out,
-    )
+    precedence::place(&graph.order(), out)
 }
 
 // With an output row and units: refusals 1 to 7, or the earliest starts.
@@ -69,14 +54,7 @@ pub fn placed_with_units(
     ensures { Admitted (order (graph_in graph.now)) (placed_unit_checks (graph_in graph.now) (matched ≡ false) (length out.old) units.now) out.old result out.new }
 {
     shape::front_unit_fault(graph, units, matched, out.len())?;
-    precedence::place(
-        &Order {
-            weights: graph.delays,
-            from: graph.from,
-            to: graph.to,
-        },
-        out,
-    )
+    precedence::place(&graph.order(), out)
 }
 
 // With an output row and a bound: refusals 1 to 5 and 7 to 9, or the earliest starts.
@@ -89,15 +67,7 @@ pub fn placed_within(
     ensures { Admitted (order (graph_in graph.now)) (placed_within_checks (graph_in graph.now) (matched ≡ false) (length out.old) bound) out.old result out.new }
 {
     let starts = placed(graph, matched, out)?;
-    bounds::within(
-        &Order {
-            weights: graph.delays,
-            from: graph.from,
-            to: graph.to,
-        },
-        bound,
-        starts,
-    )
+    bounds::within(&graph.order(), bound, starts)
 }
 
 // With an output row, units and a bound: refusals 1 to 9, or the earliest starts.
@@ -112,15 +82,7 @@ pub fn placed_with_units_within(
     ensures { Admitted (order (graph_in graph.now)) (placed_unit_within_checks (graph_in graph.now) (matched ≡ false) (length out.old) units.now bound) out.old result out.new }
 {
     let starts = placed_with_units(graph, units, matched, out)?;
-    bounds::within(
-        &Order {
-            weights: graph.delays,
-            from: graph.from,
-            to: graph.to,
-        },
-        bound,
-        starts,
-    )
+    bounds::within(&graph.order(), bound, starts)
 }
 
 // Refusal 8, alone: the bound is past the last step.

@@ -18,7 +18,6 @@ ghost use Rattle.lister.specs.Asking.{Sought};
 use crate::job::Job;
 use model::graph::Graph;
 use model::limits::{OPERATIONS, WINDOWS};
-use model::order::Order;
 use model::work::Work;
 use model::{Listed, Refusal};
 
@@ -72,12 +71,7 @@ fn ask(
 {
     let matched = rows_match(graph, units, after);
     let early = admission::placed_with_units_within(graph, units, matched, bound, out)?;
-    let order = Order {
-        weights: graph.delays,
-        from: graph.from,
-        to: graph.to,
-    };
-    let late = tables::latest(&order, bound);
+    let late = tables::latest(&graph.order(), bound);
     let job = Job {
         work: Work {
             delays: graph.delays,

@@ -1,4 +1,5 @@
 // The graph, as it is lent.
+use crate::order::Order;
 
 // Delays, types, how many types there are, and where the edges leave and lead. Nothing is known of them: every question looks for itself.
 #[derive(Clone, Copy)]
@@ -8,4 +9,24 @@ pub struct Graph<'a> {
     pub kinds: usize,
     pub from: &'a [u16],
     pub to: &'a [u16],
+}
+
+impl<'a> Graph<'a> {
+    ghost use Rattle.std.specs.Prelude.{◌≡◌};
+    ghost use Rattle.model.specs.Limits as limit;
+    ghost use Rattle.model.specs.Order.{Closed};
+    ghost use Rattle.model.specs.Graph.{order};
+    ghost use Rattle.model.specs.Lent.{graph_in, order_in};
+
+    // What precedence reads of it, where refusals 1 to 4 leave it sound.
+    pub fn order(&self) -> Order<'a>
+        requires { Closed limit.longest (order (graph_in self.now)) }
+        ensures { order_in result ≡ order (graph_in self.now) }
+    {
+        Order {
+            weights: self.delays,
+            from: self.from,
+            to: self.to,
+        }
+    }
 }

@@ -46,12 +46,7 @@ pub fn alap(graph: &Graph, bound: usize, out: &mut [u16]) -> Result<(), Refusal>
     ensures { AlapAnswer (graph_in graph.now) bound out.old result out.new }
 {
     admission::placed_within(graph, true, bound, out)?;
-    let order = Order {
-        weights: graph.delays,
-        from: graph.from,
-        to: graph.to,
-    };
-    let late = latest(&order, bound);
+    let late = latest(&graph.order(), bound);
     admission::rows::fill(&late, graph.delays.len(), out);
     Ok(())
 }
@@ -61,12 +56,7 @@ pub fn mobility(graph: &Graph, bound: usize, out: &mut [u16]) -> Result<(), Refu
     ensures { MobilityAnswer (graph_in graph.now) bound out.old result out.new }
 {
     let starts = admission::placed_within(graph, true, bound, out)?;
-    let order = Order {
-        weights: graph.delays,
-        from: graph.from,
-        to: graph.to,
-    };
-    let late = latest(&order, bound);
+    let late = latest(&graph.order(), bound);
     let spread = latency::differences(&late, &starts, graph.delays.len());
     admission::rows::fill(&spread, graph.delays.len(), out);
     Ok(())

@@ -9,8 +9,8 @@ pub returns-in_err-graph_unit_fault : goal.returns-in_err-graph_unit_fault
 returns-in_err-graph_unit_fault c =
     let given = err_from_is_err_and c.from_residual.result c.from_residual.ensures.1 in rw (given.1, given.2) (first_hit _ _ _ c.in_err-graph_unit_fault.ensures)
 
-pub invariant_of-cycle_fault : goal.invariant_of-cycle_fault
-invariant_of-cycle_fault c = record { closed = closed _ (passed_sound _ _ _ c.in_ok-graph_unit_fault.ensures) }
+pub order-requires : goal.order-requires
+order-requires c = closed _ (passed_sound _ _ _ c.in_ok-graph_unit_fault.ensures)
 
 pub returns : goal.returns
-returns c = first_pass _ _ _ c.in_ok-graph_unit_fault.ensures c.cycle_fault.ensures
+returns c = first_pass _ _ _ c.in_ok-graph_unit_fault.ensures (rw c.order.ensures at c.cycle_fault.ensures)

@@ -1,5 +1,7 @@
 -- `placed` meets its contract: what refusals 1 to 5 say, or else the seventh.
+use Rattle.std.proofs.Common.{ap, arith}
 use Rattle.std.proofs.lemmas.Result.{err_from_is_err_and}
+use Rattle.model.specs.Order.{size}
 use Rattle.model.specs.Refusals.{cyclic}
 use Rattle.theory.specs.refusals.RowAfterwards.{front_unwritten}
 use Rattle.theory.specs.refusals.SoundGraph.{closed}
@@ -10,11 +12,11 @@ pub returns-in_err-front : goal.returns-in_err-front
 returns-in_err-front c =
     let given = err_from_is_err_and c.from_residual.result c.from_residual.ensures.1 in rw (given.1, given.2) (admitted_stopped _ (cyclic _) (front_unwritten _ _ _) c.in_err-front.ensures)
 
-pub invariant_of-place : goal.invariant_of-place
-invariant_of-place c = record { closed = closed _ (passed_sound _ _ _ c.in_ok-front.ensures) }
+pub order-requires : goal.order-requires
+order-requires c = closed _ (passed_sound _ _ _ c.in_ok-front.ensures)
 
 pub place-requires : goal.place-requires
-place-requires c = record { room = passed_room _ _ _ _ c.in_ok-front.ensures }
+place-requires c = record { room = omega (arith, passed_room _ _ _ _ c.in_ok-front.ensures, ap size c.order.ensures) }
 
 pub returns : goal.returns
-returns c = admitted_passed _ (cyclic _) c.in_ok-front.ensures c.place.ensures
+returns c = admitted_passed _ (cyclic _) c.in_ok-front.ensures (rw c.order.ensures at c.place.ensures)

@@ -9,11 +9,11 @@ pub returns-in_err-starts : goal.returns-in_err-starts
 returns-in_err-starts c =
     let given = err_from_is_err_and c.from_residual.result c.from_residual.ensures.1 in rw (given.1, given.2) (admitted_handed c.in_err-starts.ensures (bound_checks _ _))
 
-pub invariant_of-within : goal.invariant_of-within
-invariant_of-within c = record { closed = closed _ (admitted_sound c.in_ok-starts.ensures) }
+pub order-requires : goal.order-requires
+order-requires c = closed _ (admitted_sound c.in_ok-starts.ensures)
 
 pub within-requires : goal.within-requires
-within-requires c = admitted_starts c.in_ok-starts.ensures
+within-requires c = rw c.order.ensures (admitted_starts c.in_ok-starts.ensures)
 
 pub returns : goal.returns
-returns c = admitted_then c.in_ok-starts.ensures (bound_checks _ _) c.within.ensures
+returns c = admitted_then c.in_ok-starts.ensures (bound_checks _ _) (rw c.order.ensures at c.within.ensures)

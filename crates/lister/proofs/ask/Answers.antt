@@ -10,17 +10,17 @@ returns-in_err-early c =
     let m = matched_as (graph_in c.args.graph.now) c.args.units.now c.args.after c.rows_match-matched.ensures in
     rw (given.1, given.2) (ask_refused c.args.graph.now _ c.args.bound _ m c.in_err-early.ensures)
 
-pub invariant_of-order : goal.invariant_of-order
-invariant_of-order c =
+pub order-requires : goal.order-requires
+order-requires c =
     let m = matched_as (graph_in c.args.graph.now) c.args.units.now c.args.after c.rows_match-matched.ensures in
-    record { closed = ask_closed c.args.graph.now _ c.args.bound _ m c.in_ok-early.ensures }
+    ask_closed c.args.graph.now _ c.args.bound _ m c.in_ok-early.ensures
 
 pub latest-late-requires : goal.latest-late-requires
 latest-late-requires c =
     let m = matched_as (graph_in c.args.graph.now) c.args.units.now c.args.after c.rows_match-matched.ensures in
     record {
       bound_le_steps = ask_low c.args.graph.now _ c.args.bound _ m c.in_ok-early.ensures;
-      room_within = ask_within c.args.graph.now _ c.args.bound _ m c.in_ok-early.ensures;
+      room_within = rw c.order.ensures (ask_within c.args.graph.now _ c.args.bound _ m c.in_ok-early.ensures);
     }
 
 pub invariant_of-job : goal.invariant_of-job
@@ -36,13 +36,13 @@ invariant_of-job-2 c =
     let m = matched_as (graph_in c.args.graph.now) c.args.units.now c.args.after c.rows_match-matched.ensures in
     record {
       linked = c.higher_links.ensures;
-      windows = ask_windows c.args.graph.now _ c.args.bound _ m c.in_ok-early.ensures c.latest-late.ensures;
+      windows = ask_windows c.args.graph.now _ c.args.bound _ m c.in_ok-early.ensures (rw c.order.ensures at c.latest-late.ensures);
     }
 
 pub returns-then-too_many : goal.returns-then-too_many
 returns-then-too_many c =
     let m = matched_as (graph_in c.args.graph.now) c.args.units.now c.args.after c.rows_match-matched.ensures in
-    ask_many c.args.graph.now _ c.args.bound _ m c.in_ok-early.ensures c.latest-late.ensures (c.too_many.ensures.yes c.if-too_many.true)
+    ask_many c.args.graph.now _ c.args.bound _ m c.in_ok-early.ensures (rw c.order.ensures at c.latest-late.ensures) (c.too_many.ensures.yes c.if-too_many.true)
 
 pub seek-requires : goal.seek-requires
 seek-requires c =
@@ -55,4 +55,4 @@ seek-requires c =
 pub returns : goal.returns
 returns c =
     let m = matched_as (graph_in c.args.graph.now) c.args.units.now c.args.after c.rows_match-matched.ensures in
-    ask_sought c.args.graph.now _ c.args.bound _ m c.in_ok-early.ensures c.latest-late.ensures (c.too_many.ensures.none c.if-too_many.false) c.seek.ensures
+    ask_sought c.args.graph.now _ c.args.bound _ m c.in_ok-early.ensures (rw c.order.ensures at c.latest-late.ensures) (c.too_many.ensures.none c.if-too_many.false) c.seek.ensures

@@ -7,17 +7,17 @@ pub returns-in_err-starts : goal.returns-in_err-starts
 returns-in_err-starts c =
     let given = err_from_is_err_and c.from_residual.result c.from_residual.ensures.1 in rw (given.1, given.2) (within_refused _ c.in_err-starts.ensures)
 
-pub invariant_of-order : goal.invariant_of-order
-invariant_of-order c = record { closed = latest_closed c.in_ok-starts.ensures }
+pub order-requires : goal.order-requires
+order-requires c = latest_closed c.in_ok-starts.ensures
 
 pub latest-late-requires-clause-bound_le_steps : goal.latest-late-requires-clause-bound_le_steps
 latest-late-requires-clause-bound_le_steps c = latest_low c.in_ok-starts.ensures
 
 pub latest-late-requires-clause-room_within : goal.latest-late-requires-clause-room_within
-latest-late-requires-clause-room_within c = latest_room c.in_ok-starts.ensures
+latest-late-requires-clause-room_within c = rw c.order.ensures (latest_room c.in_ok-starts.ensures)
 
 pub differences-spread-requires : goal.differences-spread-requires
-differences-spread-requires c = under c.in_ok-starts.ensures c.latest-late.ensures
+differences-spread-requires c = under c.in_ok-starts.ensures (rw c.order.ensures at c.latest-late.ensures)
 
 pub fill-requires-clause-n_le_operations : goal.fill-requires-clause-n_le_operations
 fill-requires-clause-n_le_operations c = within_few c.in_ok-starts.ensures
@@ -26,4 +26,4 @@ pub fill-requires-clause-n_in_bounds : goal.fill-requires-clause-n_in_bounds
 fill-requires-clause-n_in_bounds c = within_room c.in_ok-starts.ensures
 
 pub returns : goal.returns
-returns c = mobility_done c.in_ok-starts.ensures c.latest-late.ensures c.differences-spread.ensures c.fill.ensures
+returns c = mobility_done c.in_ok-starts.ensures (rw c.order.ensures at c.latest-late.ensures) c.differences-spread.ensures c.fill.ensures
