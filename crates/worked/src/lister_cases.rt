@@ -1,266 +1,195 @@
 // Cases 8 to 11 and 14, and all schedules of the eleven-operation graph at bound 5: the lister.
-use crate::{eleven, say};
-use model::Listed;
-use model::limits::OPERATIONS;
-use std::io;
+ghost use Rattle.std.specs.Prelude.{◌≤◌};
+ghost use Rattle.model.specs.Limits.{operations};
 
-// The largest number of schedules that a listing here asks for.
+use crate::eleven::{GRAPH, MANY};
+use crate::say::{Refused, joined, spaced};
+use model::graph::Graph;
+use model::limits::OPERATIONS;
+use model::{Listed, Refusal};
+use std::{fmt, io};
+
+// The largest number of answers that a listing here asks for.
 const MOST: usize = 1000;
 
+// The prime that a checksum stays below.
 const PRIME: u64 = 1000000007;
 
-// Writes what the lister answered, and says whether it was a schedule.
-fn told(rt: &impl Print, answer: Listed, out: &[u16], n: usize) -> io::Result<bool> {
-    match answer {
-        Listed::Found => {
-            say::mark(rt, b'(')?;
-            say::row(rt, out, n, b',')?;
-            say::mark(rt, b')')?;
-            Ok(true)
-        }
-        Listed::NoneLeft => {
-            say::word(rt, "none left")?;
-            Ok(false)
-        }
-        Listed::Refused(why) => {
-            say::refusal(rt, why, out)?;
-            Ok(false)
-        }
-    }
-}
+// Delays of 1, as many as a graph can have.
+const ONES: [u8; OPERATIONS] = [1; OPERATIONS];
 
-// Writes all schedules, one after another, until none is left.
-fn all(
-    rt: &impl Print,
-    delays: &[u8],
-    types: &[u8],
-    from: &[u16],
-    to: &[u16],
-    units: u8,
+// As many types, all of them 0.
+const ZEROS: [u8; OPERATIONS] = [0; OPERATIONS];
+
+// What the lister is asked about: a graph, its unit counts and a bound.
+#[derive(Clone, Copy)]
+struct Question<'a> {
+    graph: Graph<'a>,
+    units: &'a [u8],
     bound: usize,
-) -> io::Result<()> {
-    let n = delays.len();
-    if OPERATIONS < n {
-        return Ok(());
-    }
-    say::word(rt, say::COLON)?;
-    let mut out = [0u16; OPERATIONS];
-    let counts = [units];
-    let answer = lister::first(delays, types, 1, from, to, &counts, bound, &mut out);
-    let mut more = told(rt, answer, &out, n)?;
-    let mut left = MOST;
-    while more {
-        if left == 0 {
-            return Ok(());
-        }
-        left -= 1;
-        say::mark(rt, b' ')?;
-        let shown = out;
-        let after = &shown[0..n];
-        let answer = lister::next(delays, types, 1, from, to, &counts, bound, after, &mut out);
-        more = told(rt, answer, &out, n)?;
-    }
-    say::mark(rt, b'\n')
 }
 
-// All schedules of n operations of delay 1 and one type, with no edge.
-fn apart(rt: &impl Print, n: usize, units: u8, bound: usize) -> io::Result<()> {
-    if OPERATIONS < n {
-        return Ok(());
+// What the lister answered about N operations, no more than the limit, and the row that it filled.
+#[derive(Clone, Copy)]
+struct Answer<const N: usize> {
+    listed: Result<Listed, Refusal>,
+    row: [u16; N],
+    ghost few: { N ≤ operations },
+}
+
+// The answers of the lister to one question: the next one, as long as the one before found a schedule.
+#[derive(Drop)]
+struct Answers<'a, const N: usize> {
+    question: &'a Question<'a>,
+    next: Option<Answer<N>>,
+}
+
+impl Question<'_> {
+    // The first answer.
+    fn first<const N: usize>(&self) -> Answer<N>
+        requires { N ≤ operations }
+    {
+        let mut row = [0; N];
+        let listed = lister::first(&self.graph, self.units, self.bound, &mut row);
+        Answer { listed, row }
     }
-    let ones = [1u8; OPERATIONS];
-    let zeros = [0u8; OPERATIONS];
-    all(
-        rt,
-        &ones[0..n],
-        &zeros[0..n],
-        &[0u16; 0],
-        &[0u16; 0],
+
+    // The answer after a row of starts.
+    fn after<const N: usize>(&self, starts: &[u16; N]) -> Answer<N>
+        requires { N ≤ operations }
+    {
+        let mut row = [0; N];
+        let listed = lister::next(&self.graph, self.units, self.bound, starts, &mut row);
+        Answer { listed, row }
+    }
+
+    // All answers, one after another.
+    fn answers<const N: usize>(&self) -> Answers<'_, N>
+        requires { N ≤ operations }
+    {
+        Answers {
+            question: self,
+            next: Some(self.first()),
+        }
+    }
+}
+
+impl<const N: usize> Iterator for Answers<'_, N> {
+    type Item = Answer<N>;
+
+    fn next(&mut self) -> Option<Answer<N>> {
+        let answer = self.next?;
+        self.next = if answer.found() {
+            Some(self.question.after(&answer.row))
+        } else {
+            None
+        };
+        Some(answer)
+    }
+}
+
+impl<const N: usize> Answer<N> {
+    // Whether the lister found a schedule.
+    fn found(&self) -> bool {
+        matches!(self.listed, Ok(Listed::Found))
+    }
+}
+
+impl<const N: usize> fmt::Display for Answer<N> {
+    fn fmt<W: fmt::Write>(&self, f: &mut fmt::Formatter<W>) -> fmt::Result {
+        let row = &self.row;
+        match self.listed {
+            Ok(Listed::Found) => write!(f, "({})", joined(row, ",")),
+            Ok(Listed::NoneLeft) => f.write_str("none left"),
+            Err(why) => write!(f, "{}", Refused { why, row }),
+        }
+    }
+}
+
+// Ends a line with all answers, one after another.
+fn all<I: Iterator<Item: fmt::Display + Drop> + Drop>(rt: &impl Print, answers: I) -> io::Result<()>
+    requires { I.can_next answers }
+{
+    for answer in answers.take(MOST) {
+        print!(rt; " {answer}")?;
+    }
+    println!(rt)
+}
+
+// A question about so many operations of delay 1 and one type, with no edge.
+fn apart(many: usize, units: &[u8], bound: usize) -> Question<'_>
+    requires { many ≤ operations }
+{
+    let graph = Graph {
+        delays: &ONES[..many],
+        types: &ZEROS[..many],
+        kinds: 1,
+        from: &[],
+        to: &[],
+    };
+    Question {
+        graph,
         units,
         bound,
-    )
-}
-
-// The question of all schedules.
-const ALL: &str = " all";
-
-// Case 9: two operations and so many units.
-fn ninth(rt: &impl Print, units: u8) -> io::Result<()> {
-    say::case(rt, 9, ALL)?;
-    say::mark(rt, b' ')?;
-    say::entry(rt, units as u16)?;
-    apart(rt, 2, units, 2)
+    }
 }
 
 // Case 10: two operations of delay 1, an edge from the first to the second, two units and bound 3.
-fn tenth(rt: &impl Print) -> io::Result<()> {
-    say::case(rt, 10, ALL)?;
-    all(rt, &[1u8, 1], &[0u8, 0], &[0u16], &[1u16], 2, 3)
-}
+const TENTH: Question<'static> = Question {
+    graph: Graph {
+        delays: &[1, 1],
+        types: &[0, 0],
+        kinds: 1,
+        from: &[0],
+        to: &[1],
+    },
+    units: &[2],
+    bound: 3,
+};
 
-// Case 10: the schedule after a row.
-fn after(rt: &impl Print, first: u16, second: u16) -> io::Result<()> {
-    let mut out = [0u16; 2];
-    say::case(rt, 10, " next ")?;
-    say::entry(rt, first)?;
-    say::mark(rt, b' ')?;
-    say::entry(rt, second)?;
-    say::word(rt, say::COLON)?;
-    told(
-        rt,
-        lister::next(
-            &[1u8, 1],
-            &[0u8, 0],
-            1,
-            &[0u16],
-            &[1u16],
-            &[2u8],
-            3,
-            &[first, second],
-            &mut out,
-        ),
-        &out,
-        2,
-    )?;
-    say::mark(rt, b'\n')
-}
-
-// Cases 8 to 11.
+// Cases 8 to 11: no operation; two of them on one unit and on two; two and an edge, also after a row; three with no room.
 pub fn small(rt: &impl Print) -> io::Result<()> {
-    say::case(rt, 8, ALL)?;
-    apart(rt, 0, 1, 0)?;
-    ninth(rt, 1)?;
-    ninth(rt, 2)?;
-    tenth(rt)?;
-    after(rt, 1, 3)?;
-    after(rt, 0, 9)?;
-    after(rt, 65535, 65535)?;
-    say::case(rt, 11, ALL)?;
-    apart(rt, 3, 1, 2)
-}
-
-// Case 14: so many operations, and as many units.
-fn fourteenth(rt: &impl Print, n: usize, units: u8) -> io::Result<()> {
-    if OPERATIONS < n {
-        return Ok(());
+    print!(rt; "8 all:")?;
+    all(rt, apart(0, &[1], 0).answers::<0>())?;
+    for units in [1, 2] {
+        print!(rt; "9 all {units}:")?;
+        all(rt, apart(2, &[units], 2).answers::<2>())?;
     }
-    let ones = [1u8; OPERATIONS];
-    let zeros = [0u8; OPERATIONS];
-    let mut out = [0u16; OPERATIONS];
-    say::case(rt, 14, " first ")?;
-    say::number(rt, n)?;
-    say::word(rt, say::COLON)?;
-    told(
-        rt,
-        lister::first(
-            &ones[0..n],
-            &zeros[0..n],
-            1,
-            &[0u16; 0],
-            &[0u16; 0],
-            &[units],
-            2,
-            &mut out,
-        ),
-        &out,
-        n,
-    )?;
-    say::mark(rt, b'\n')
+    print!(rt; "10 all:")?;
+    all(rt, TENTH.answers::<2>())?;
+    for starts in [[1, 3], [0, 9], [65535, 65535]] {
+        println!(rt; "10 next {}: {}", spaced(&starts), TENTH.after(&starts))?;
+    }
+    print!(rt; "11 all:")?;
+    all(rt, apart(3, &[1], 2).answers::<3>())
 }
 
-// Case 14: the product of the windows at the limit, and past it.
+// Case 14: the product of the windows at the limit, and past it; each operation has a unit.
 pub fn windows(rt: &impl Print) -> io::Result<()> {
-    fourteenth(rt, 19, 19)?;
-    fourteenth(rt, 20, 20)
+    println!(rt; "14 first 19: {}", apart(19, &[19], 2).first::<19>())?;
+    println!(rt; "14 first 20: {}", apart(20, &[20], 2).first::<20>())
 }
 
 // What one start makes of a checksum.
-fn folded(sum: u64, start: u16) -> u64 {
-    (sum % PRIME * 31 + start as u64) % PRIME
-}
-
-// What the first n entries of a row make of a checksum.
-fn summed(sum: u64, row: &[u16; OPERATIONS], n: usize) -> u64 {
-    let mut c = sum;
-    for start in row.iter().take(n) {
-        c = folded(c, *start);
-    }
-    c
-}
-
-// Whether the lister found a schedule.
-fn found(answer: Listed) -> bool {
-    if let Listed::Found = answer {
-        true
-    } else {
-        false
-    }
-}
-
-// How many schedules there are, and their checksum.
-#[derive(Clone, Copy)]
-struct Summary {
-    count: usize,
-    sum: u64,
-}
-
-// All schedules of a graph of no more operations than the limit.
-fn total(
-    delays: &[u8],
-    types: &[u8],
-    from: &[u16],
-    to: &[u16],
-    units: &[u8],
-    bound: usize,
-) -> Summary {
-    let n = delays.len();
-    let mut out = [0u16; OPERATIONS];
-    let mut count = 0;
-    let mut sum = 0;
-    if OPERATIONS < n {
-        return Summary { count, sum };
-    }
-    let kinds = units.len();
-    let mut more = found(lister::first(delays, types, kinds, from, to, units, bound, &mut out));
-    while more {
-        if MOST <= count {
-            return Summary { count, sum };
-        }
-        count += 1;
-        sum = summed(sum, &out, n);
-        let after = out;
-        more = found(lister::next(
-            delays,
-            types,
-            kinds,
-            from,
-            to,
-            units,
-            bound,
-            &after[0..n],
-            &mut out,
-        ));
-    }
-    Summary { count, sum }
+fn folded(sum: u64, start: &u16) -> u64 {
+    (sum % PRIME * 31 + u64::from(*start)) % PRIME
 }
 
 // The eleven-operation graph at bound 5, units 2 and 2: the number of its schedules, and their checksum.
 pub fn eleven(rt: &impl Print) -> io::Result<()> {
-    let listed = total(
-        &[1u8; eleven::MANY],
-        &eleven::TYPES,
-        &eleven::FROM,
-        &eleven::TO,
-        &[2u8, 2],
-        5,
-    );
-    say::word(rt, "eleven")?;
-    say::word(rt, ALL)?;
-    say::mark(rt, b' ')?;
-    say::number(rt, 5)?;
-    say::word(rt, say::COLON)?;
-    say::number(rt, listed.count)?;
-    say::word(rt, " schedules, checksum ")?;
-    rt.print(listed.sum)?;
-    say::mark(rt, b'\n')
+    let question = Question {
+        graph: GRAPH,
+        units: &[2, 2],
+        bound: 5,
+    };
+    let found = question
+        .answers::<MANY>()
+        .take_while(|answer| answer.found());
+    let mut count = 0;
+    let mut sum = 0;
+    for (nth, answer) in (1..=MOST).zip(found) {
+        count = nth;
+        sum = answer.row.iter().fold(sum, folded);
+    }
+    println!(rt; "eleven all 5: {count} schedules, checksum {sum}")
 }

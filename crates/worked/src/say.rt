@@ -1,58 +1,50 @@
-// Writing: words, marks, numbers, rows, refusals.
+// What the cases write alike: rows and refusals.
 use model::Refusal;
-use std::io;
+use std::fmt;
 
-// The word before what a case answers; the others stand where they are said.
-pub const COLON: &str = ": ";
-
-// Writes a mark.
-pub fn mark(rt: &impl Print, letter: u8) -> io::Result<()> {
-    rt.write_all(&[letter])
+// The entries of a row, with the same text between each two.
+#[derive(Clone, Copy)]
+pub struct Row<'a, T> {
+    entries: &'a [T],
+    between: &'static str,
 }
 
-// Writes a word.
-pub fn word(rt: &impl Print, text: &str) -> io::Result<()> {
-    rt.print(text)
+// A row with this text between each two entries.
+pub fn joined<'a, T>(entries: &'a [T], between: &'static str) -> Row<'a, T> {
+    Row { entries, between }
 }
 
-// Writes a number.
-pub fn number(rt: &impl Print, n: usize) -> io::Result<()> {
-    rt.print(n)
+// A row with a space between each two entries.
+pub fn spaced<T>(entries: &[T]) -> Row<'_, T> {
+    joined(entries, " ")
 }
 
-// Writes an entry of a row.
-pub fn entry(rt: &impl Print, n: u16) -> io::Result<()> {
-    number(rt, n as usize)
-}
-
-// Writes a case's number and its question.
-pub fn case(rt: &impl Print, number_of: usize, question: &str) -> io::Result<()> {
-    number(rt, number_of)?;
-    word(rt, question)
-}
-
-// Writes the first n entries of a row, with a mark between them.
-pub fn row(rt: &impl Print, entries: &[u16], n: usize, between: u8) -> io::Result<()> {
-    for (i, start) in entries.iter().take(n).enumerate() {
-        if 0 < i {
-            mark(rt, between)?;
+impl<T: fmt::Display> fmt::Display for Row<'_, T> {
+    fn fmt<W: fmt::Write>(&self, f: &mut fmt::Formatter<W>) -> fmt::Result {
+        for (i, entry) in self.entries.iter().enumerate() {
+            if 0 < i {
+                f.write_str(self.between)?;
+            }
+            write!(f, "{entry}")?;
         }
-        entry(rt, *start)?;
+        Ok(())
     }
-    Ok(())
 }
 
-// Writes a refusal by its number and place, and the cycle where there is one.
-pub fn refusal(rt: &impl Print, why: Refusal, out: &[u16]) -> io::Result<()> {
-    word(rt, "refused ")?;
-    let no = why.number();
-    number(rt, no)?;
-    word(rt, " at ")?;
-    let place = why.place();
-    number(rt, place)?;
-    if no == 7 {
-        word(rt, COLON)?;
-        row(rt, out, place, b' ')?;
+// A refusal by its number and place; where that is a cycle's length, the row begins with the cycle.
+#[derive(Clone, Copy)]
+pub struct Refused<'a> {
+    pub why: Refusal,
+    pub row: &'a [u16],
+}
+
+impl fmt::Display for Refused<'_> {
+    fn fmt<W: fmt::Write>(&self, f: &mut fmt::Formatter<W>) -> fmt::Result {
+        write!(f, "refused {} at {}", self.why.number(), self.why.place())?;
+        if let Refusal::Cycle(length) = self.why {
+            let shown = length.min(self.row.len());
+            write!(f, ": {}", spaced(&self.row[..shown]))?;
+        }
+        Ok(())
     }
-    Ok(())
 }

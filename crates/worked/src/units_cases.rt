@@ -1,123 +1,66 @@
 // Cases 12 and 13: the checker, and peak use.
-use crate::say;
-use model::{Answer, Finding, Peaks, Verdict};
-use std::io;
+use crate::say::{Refused, spaced};
+use model::graph::Graph;
+use model::{Finding, Refusal};
+use std::{fmt, io};
 
-// Writes over-use: its step and its type.
-fn over_use(rt: &impl Print, step: usize, kind: usize) -> io::Result<()> {
-    say::word(rt, "over-use at step ")?;
-    say::number(rt, step)?;
-    say::word(rt, " type ")?;
-    say::number(rt, kind)
-}
+// One operation of delay 2, and no edge.
+const ONE: Graph<'static> = Graph {
+    delays: &[2],
+    types: &[0],
+    kinds: 1,
+    from: &[],
+    to: &[],
+};
 
-// Writes a fault: what it is, and the operation or the edge.
-fn fault(rt: &impl Print, what: &str, place: usize) -> io::Result<()> {
-    say::word(rt, what)?;
-    say::number(rt, place)
-}
+// Two such operations.
+const TWO: Graph<'static> = Graph {
+    delays: &[2, 2],
+    types: &[0, 0],
+    ..ONE
+};
 
-// Writes what the checker found.
-fn verdict(rt: &impl Print, found: Verdict) -> io::Result<()> {
-    say::word(rt, say::COLON)?;
-    match found.finding {
-        Finding::Lawful => say::word(rt, "lawful")?,
-        Finding::Untimely(operation) => fault(rt, "untimely ", operation)?,
-        Finding::Broken(edge) => fault(rt, "broken ", edge)?,
-        Finding::OverUse(step, kind) => over_use(rt, step, kind)?,
-        Finding::Refused(why) => say::refusal(rt, why, &[0u16; 0])?,
+// What the checker found, in words.
+#[derive(Clone, Copy)]
+struct Found(Finding);
+
+impl fmt::Display for Found {
+    fn fmt<W: fmt::Write>(&self, f: &mut fmt::Formatter<W>) -> fmt::Result {
+        match self.0 {
+            Finding::Lawful => f.write_str("lawful"),
+            Finding::Untimely(operation) => write!(f, "untimely {operation}"),
+            Finding::Broken(edge) => write!(f, "broken {edge}"),
+            Finding::OverUse(step, kind) => write!(f, "over-use at step {step} type {kind}"),
+        }
     }
-    say::mark(rt, b'\n')
 }
 
-// Writes the four peaks.
-fn peaks(rt: &impl Print, counts: [usize; 4]) -> io::Result<()> {
-    say::number(rt, counts[0])?;
-    say::mark(rt, b' ')?;
-    say::number(rt, counts[1])?;
-    say::mark(rt, b' ')?;
-    say::number(rt, counts[2])?;
-    say::mark(rt, b' ')?;
-    say::number(rt, counts[3])
-}
-
-// Writes peak use: the four numbers, or the refusal.
-fn peak(rt: &impl Print, found: Peaks) -> io::Result<()> {
-    say::word(rt, say::COLON)?;
-    match found.answer {
-        Answer::Done => peaks(rt, found.counts)?,
-        Answer::Refused(why) => say::refusal(rt, why, &[0u16; 0])?,
+// Ends a line with what the checker answered: what it found, or the refusal.
+fn verdict(rt: &impl Print, answer: Result<Finding, Refusal>) -> io::Result<()> {
+    match answer {
+        Ok(finding) => println!(rt; "{}", Found(finding)),
+        Err(why) => println!(rt; "{}", Refused { why, row: &[] }),
     }
-    say::mark(rt, b'\n')
 }
 
-// The question of the checker.
-const CHECK: &str = " check ";
-
-// Case 12: one operation of delay 2 at start 1, checked at a bound.
-fn one(rt: &impl Print, bound: usize) -> io::Result<()> {
-    say::case(rt, 12, CHECK)?;
-    say::number(rt, bound)?;
-    verdict(
-        rt,
-        checker::check(
-            &[2u8],
-            &[0u8],
-            1,
-            &[0u16; 0],
-            &[0u16; 0],
-            &[1u8],
-            bound,
-            &[1u16],
-        ),
-    )
+// Ends a line with the peaks of the two at these starts, or the refusal.
+fn peaks(rt: &impl Print, starts: &[u16; 2]) -> io::Result<()> {
+    match peak_use::peak_use(&TWO, starts) {
+        Ok(counts) => println!(rt; "{}", spaced(&counts)),
+        Err(why) => println!(rt; "{}", Refused { why, row: &[] }),
+    }
 }
 
-// Case 13: two operations of delay 2 on one unit, checked at these starts.
-fn two(rt: &impl Print, first: u16, second: u16) -> io::Result<()> {
-    say::case(rt, 13, CHECK)?;
-    say::entry(rt, first)?;
-    say::mark(rt, b' ')?;
-    say::entry(rt, second)?;
-    verdict(
-        rt,
-        checker::check(
-            &[2u8, 2],
-            &[0u8, 0],
-            1,
-            &[0u16; 0],
-            &[0u16; 0],
-            &[1u8],
-            4,
-            &[first, second],
-        ),
-    )
-}
-
-// Case 13: the peaks of the two at these starts.
-fn two_peaks(rt: &impl Print, first: u16, second: u16) -> io::Result<()> {
-    say::case(rt, 13, " peak ")?;
-    say::entry(rt, first)?;
-    say::mark(rt, b' ')?;
-    say::entry(rt, second)?;
-    peak(
-        rt,
-        peak_use::peak_use(
-            &[2u8, 2],
-            &[0u8, 0],
-            1,
-            &[0u16; 0],
-            &[0u16; 0],
-            &[first, second],
-        ),
-    )
-}
-
-// One operation of delay 2, then two of them on one unit.
+// One operation at start 1, checked at two bounds; then two on one unit, checked at two rows of starts, and their peaks at the first.
 pub fn checks(rt: &impl Print) -> io::Result<()> {
-    one(rt, 2)?;
-    one(rt, 1)?;
-    two(rt, 1, 2)?;
-    two(rt, 1, 3)?;
-    two_peaks(rt, 1, 2)
+    for bound in [2, 1] {
+        print!(rt; "12 check {bound}: ")?;
+        verdict(rt, checker::check(&ONE, &[1], bound, &[1]))?;
+    }
+    for starts in [[1, 2], [1, 3]] {
+        print!(rt; "13 check {}: ", spaced(&starts))?;
+        verdict(rt, checker::check(&TWO, &[1], 4, &starts))?;
+    }
+    print!(rt; "13 peak 1 2: ")?;
+    peaks(rt, &[1, 2])
 }
