@@ -68,7 +68,8 @@ impl LinkedOrder<'_> {
         true
     }
 
-    // Visits each operation once, upward or downward; what is placed is seen by those after it. How many it placed.
+    // Visits each operation once, upward or downward; what is placed is seen by those after it. How many it placed. The way is a flag: two loops,
+    // or a closure that writes the starts that it captured, are no plainer.
     fn round(&self, up: bool, starts: &mut [u32; OPERATIONS]) -> usize
         requires { Part heaviest (order_of self.now) starts.old }
         ensures { Round (order_of self.now) starts.old starts.new result }
@@ -116,7 +117,8 @@ pub fn earliest(weights: &[u16], from: &[u16], to: &[u16], starts: &mut [u32; OP
     }
 }
 
-// The delays as weights, and zeros after them.
+// The delays as weights, and zeros after them. One function for this and `narrowed` is no plainer: this one fits always and fills up, that
+// one asks that each fits.
 fn widened(delays: &[u8]) -> [u16; OPERATIONS]
     requires { length delays.now ≤ limit.operations }
     ensures { result ≡ over delays.now (replicate limit.operations 0) }

@@ -1,7 +1,7 @@
 -- What is replied to each question: what the face says of the numbers and rows in the question's bytes.
 use Rattle.std.specs.Prelude.{◌≡◌, List, [], ◌∷◌, ℕ, ◌+◌, ◌≤◌, length, take, Result, IfOk, Some, None}
 use Rattle.std.proofs.Math.Option.{none, some}
-use Rattle.model.specs.Graph.{Graph, lent}
+use Rattle.model.specs.Graph.{Graph}
 use Rattle.model.specs.Answers.{AsapAnswer, AlapAnswer, MobilityAnswer}
 use Rattle.model.specs.Scheduling.{ListAnswer}
 use Rattle.model.specs.Verdicts.{Checked, PeakAnswer}
@@ -18,11 +18,6 @@ use Rattle.pedal.specs.declared.Part.{Part}
 use Rattle.engine.specs.Frame.{longest, four, past_bytes, past_words, bytes_at, words_at}
 use Rattle.engine.specs.declared.reply.Reply.{Reply}
 use Rattle.engine.specs.declared.fault.Fault.{Fault}
-use Rattle.engine.specs.declared.graph.Graph as lent_rows
-
--- the rows that are lent for a graph
-abbrev pub graph_of : lent_rows.Graph → Graph
-graph_of g = lent g.delays.now g.types.now g.kinds g.from.now g.to.now
 
 -- the reply's numbers are those of an answer that the face gives
 pub record Says {R : Type 0} (Face : R → Type 0) (numbers : R → List ℕ) (r : Reply) : Type 0 where

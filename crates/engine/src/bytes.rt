@@ -37,7 +37,7 @@ fn lay(number: &[u8], bytes: &mut [u8], at: usize)
     bytes[at..at + number.len()].copy_from_slice(number);
 }
 
-// Writes a number as two bytes.
+// Writes a number as two bytes. Each width has a promise of its own in the numbers of that width, over the one `lay`.
 fn lay_two(number: u16, bytes: &mut [u8], at: usize)
     requires { at + 2 ≤ length bytes.old }
     ensures { TwoLaid number bytes.old at bytes.new }

@@ -1,16 +1,18 @@
 // From a question's number and bytes to its reply.
 ghost use Rattle.std.specs.Prelude.{◌≡◌, ◌+◌, ◌*◌, OnOk, IfOk};
-ghost use Rattle.engine.specs.Asked.{graph_of, ViewReply};
+ghost use Rattle.model.specs.Lent.{graph_in};
+ghost use Rattle.engine.specs.Asked.{ViewReply};
 ghost use Rattle.engine.specs.Frame.{eight};
 ghost use Rattle.engine.specs.Numbers.{numbers_of};
 ghost use Rattle.engine.specs.Dispatch.{GraphReply, Replied, Answers};
 
 use crate::cursor::Cursor;
 use crate::fault::Fault;
-use crate::graph::Graph;
 use crate::question::{About, Question};
+use crate::questions::{advance, alap, asap, check, first, list, mobility, next, peak};
 use crate::reply::Reply;
 use crate::sizes::LONGEST;
+use model::graph::Graph;
 
 // A question about a graph that is read, whose second number is a bound or a step.
 fn about(
@@ -20,18 +22,18 @@ fn about(
     rest: Cursor<'_>,
     out: &mut [u16],
 ) -> Result<Reply, Fault>
-    ensures { GraphReply (graph_of graph.now) second rest.entry.bytes.now rest.entry.at result out.new question }
+    ensures { GraphReply (graph_in graph.now) second rest.entry.bytes.now rest.entry.at result out.new question }
 {
     match question {
-        About::Asap => graph.asap(rest, out),
-        About::Alap => graph.alap(second, rest, out),
-        About::Mobility => graph.mobility(second, rest, out),
-        About::List => graph.list(rest, out),
-        About::Advance => graph.advance(second, rest, out),
-        About::Check => graph.check(second, rest),
-        About::Peak => graph.peak(rest),
-        About::First => graph.first(second, rest, out),
-        About::Next => graph.next(second, rest, out),
+        About::Asap => asap(graph, rest, out),
+        About::Alap => alap(graph, second, rest, out),
+        About::Mobility => mobility(graph, second, rest, out),
+        About::List => list(graph, rest, out),
+        About::Advance => advance(graph, second, rest, out),
+        About::Check => check(graph, second, rest),
+        About::Peak => peak(graph, rest),
+        About::First => first(graph, second, rest, out),
+        About::Next => next(graph, second, rest, out),
     }
 }
 

@@ -54,7 +54,7 @@ fn schedule(work: &Work) -> [u16; OPERATIONS]
     starts
 }
 
-// The starts after the rule at one step.
+// The starts after the rule at one step. It makes links and ranks as `schedule` does: a struct of the two for two callers is no plainer.
 fn next_starts(work: &Work, step: usize, starts: [u16; OPERATIONS]) -> [u16; OPERATIONS]
     requires doable { Doable (work_in work.now) work.now.units.now }
     requires le_step { (1 ≤ step) × (step ≤ limit.steps) }

@@ -28,7 +28,7 @@ pub enum Refusal {
 }
 
 impl Refusal {
-    // Its number in the table of refusals.
+    // Its number in the table of refusals: a match, since a reason that carries a place has no cast.
     pub fn number(self) -> usize
         ensures { result ≡ (numbered self).0 }
     {

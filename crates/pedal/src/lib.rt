@@ -16,6 +16,8 @@ use model::graph::Graph;
 use model::limits::{KINDS, OPERATIONS};
 use model::{Finding, Refusal};
 
+// Numbers stand for refusals and findings in the structs below, and every row is lent by itself: the C interface needs it so.
+
 // The answer of a question that fills a row.
 #[repr(C)]
 #[derive(Clone, Copy)]

@@ -2,9 +2,9 @@
 use Rattle.std.proofs.Common.{rules}
 use Rattle.model.specs.Scheduling.{ListAnswer}
 use Rattle.pedal.specs.Face.{HandsOn, scheduled_of}
-use Rattle.engine.specs.Asked.{graph_of}
+use Rattle.model.specs.Lent.{graph_in}
 use Rattle.engine.proofs.Lending.{said_of}
-use Rattle.engine.proofs.graph.Graph.list.Goals as goal
+use Rattle.engine.proofs.questions.list.Goals as goal
 
 pub returns : goal.returns
 returns c =
@@ -14,7 +14,7 @@ returns c =
       lies = search rules;
       says = record {
         said = c.pedal_list-said.result;
-        is = said_of (λ units before after. HandsOn (λ a. ListAnswer (graph_of c.args.self.now) units before a after) scheduled_of)
+        is = said_of (λ units before after. HandsOn (λ a. ListAnswer (graph_in c.args.graph.now) units before a after) scheduled_of)
             c.pedal_list-said.new.out _ _ c.pedal_list-said.ensures (search rules) (search rules) (search rules);
         told = search rules;
       };
