@@ -12,7 +12,7 @@ use crate::sizes::{FRAME, HEAD, LONGEST, MOST};
 use std::io::{Stdin, Stdout};
 use std::ops::ControlFlow;
 
-// The kind of an answer to a question that was asked.
+// The kind of an answer to a question that was asked: a number of the wire, and no fault.
 const ASKED: u32 = 0;
 
 // What stands before a question's bytes: its number, and their size, which the frame has room for.
