@@ -18,8 +18,9 @@ use model::Refusal;
 use model::graph::Graph;
 use model::limits::{OPERATIONS, STEPS};
 
-// Six functions and not one: each calls the one with fewer checks and adds its own. That there is a unit count for each type where the rows
-// match is a `requires` of three of them and no type: their callers test it together with their other rows, once.
+// Six functions and not one: each has a list of checks of its own, and `graph_one` to `placed_with_units_within_one` speak of them one by one.
+// That there is a unit count for each type where the rows match is a `requires` of three of them and no type: their callers test it together
+// with their other rows, once, and a struct made of that test is no plainer.
 
 // Without an output row: refusals 1 to 4 and 7.
 pub fn graph(graph: &Graph, matched: bool) -> Result<(), Refusal>

@@ -118,6 +118,7 @@ fn unit_fault(graph: &Graph, units: &[u8]) -> Result<(), Refusal>
 }
 
 // Refusals 1 to 4 and 6, of a question without an output row: the first that applies is given. Where `matched`, there is a unit count for each type.
+// This and the next add the units' check to the two above, which questions without units call.
 pub fn graph_unit_fault(graph: &Graph, units: &[u8], matched: bool) -> Result<(), Refusal>
     requires { matched ≡ true → length units.now ≡ graph.now.kinds }
     ensures { First (shape (graph_in graph.now) (matched ≡ false) ++ unitless (graph_in graph.now) units.now) (refusal_of result) }

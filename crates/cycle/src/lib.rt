@@ -99,7 +99,7 @@ fn walk(back: &[u16; OPERATIONS], first: usize) -> Walked
     ensures { MetAgain back.now first result.met result.count result.twice }
 {
     let mut met = [0u16; OPERATIONS];
-    // 0 where an operation was not met: the law of the walk counts these marks
+    // 0 where an operation was not met: the law of the walk, `WalkUntilMetAgain`, counts these marks
     let mut places = [0u16; OPERATIONS];
     let mut count: usize = 0;
     let mut here = first;

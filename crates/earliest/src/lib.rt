@@ -92,7 +92,8 @@ fn rises(from: &[u16], to: &[u16]) -> bool {
     }
 }
 
-// Rounds up and down until all are placed or one places none: what is left has start 0, and waits for another that is left. How many are placed.
+// Rounds up and down until all are placed or one places none: what is left has start 0, as `Placing` and
+// the C interface's rows say, and waits for another that is left. How many are placed.
 pub fn earliest(weights: &[u16], from: &[u16], to: &[u16], starts: &mut [u32; OPERATIONS]) -> usize
     requires { Closed heaviest (ordered weights.now from.now to.now) }
     ensures { Placing (ordered weights.now from.now to.now) starts.new result }

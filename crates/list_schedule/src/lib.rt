@@ -17,14 +17,15 @@ use model::limits::{OPERATIONS, STEPS};
 use model::order::Order;
 use model::work::Work;
 
-// The list schedule's state: the step, and a start for each operation, 0 for one that is not placed.
+// The list schedule's state: the step, and a start for each operation, 0 for one that is not placed: the C interface's row has it so, and
+// `Moves` and `Placing` speak of it.
 #[derive(Clone, Copy)]
 pub struct State {
     pub step: usize,
     pub starts: [u16; OPERATIONS],
 }
 
-// Whether the first n starts are all there.
+// Whether the first n starts are all there. The row has a fixed size, so n stands beside it.
 fn full(starts: &[u16; OPERATIONS], n: usize) -> bool
     requires { n ≤ limit.operations }
     ensures { Tells result (Full n starts.now) }

@@ -49,7 +49,7 @@ impl Refusal {
         }
     }
 
-    // Its place there: the operation, edge or type at fault, or the cycle's length.
+    // Its place there: the operation, edge or type at fault, or the cycle's length; 0 where there is none, as `numbered` and the C interface say.
     pub fn place(self) -> usize
         ensures { result ≡ (numbered self).1 }
     {

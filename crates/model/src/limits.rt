@@ -1,4 +1,5 @@
-// The limits, in one place. Each has its twin in specs/Limits.antt, and the functions below tie the two.
+// The limits, in one place. Each has its twin in specs/Limits.antt, and the functions below tie the two: one for each, since a clause speaks
+// of one function, and the list of promises names them one by one.
 ghost use Rattle.std.specs.Prelude.{◌≡◌};
 ghost use Rattle.model.specs.Limits.{operations, edges, kinds, longest, steps, windows, cells};
 

@@ -1,4 +1,5 @@
-// The face for C: the ten functions of `pedal`, exported under the same names, each with the same contract.
+// The face for C: the ten functions of `pedal`, exported under the same names, each with the same contract. A static library cannot be
+// depended on, so the engine calls `pedal`, and C calls these.
 #![tactic(auto)]
 
 ghost use Rattle.model.specs.Graph.{lent};

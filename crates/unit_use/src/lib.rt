@@ -12,7 +12,7 @@ fn runs(own: u8, start: u16, busy: u8, kind: u8, step: u16) -> bool
     own == kind && start <= step && (step as usize) < start as usize + busy as usize
 }
 
-// How many of the first `first` operations are of type `kind` and running at `step`.
+// How many of the first `first` operations are of type `kind` and running at `step`. The rows are lent by themselves: peak use has no `Work`.
 pub fn in_use(busy: &[u8], types: &[u8], starts: &[u16], kind: u8, step: u16, first: usize) -> usize
     requires { (first ≤ length busy.now) × (first ≤ length types.now) × (first ≤ length starts.now) }
     ensures { result ≡ first_in_use busy.now types.now starts.now kind step first }

@@ -1,4 +1,5 @@
-// Views of the two channels' start tables: a part of the table asked for, in that table's own memory, and why there is none.
+// Views of the two channels' start tables: a part of the table asked for, in that table's own memory, and why there is none. A channel is any
+// number, and a view cannot fail: `Viewed` and `ViewRefusal` answer for every number, so there are two functions.
 #![tactic(auto)]
 
 ghost use Rattle.std.specs.Prelude.{◌+◌, ◌≤◌};

@@ -120,13 +120,18 @@ peaks_one g t c d a b =
     same_row c d (a.long ∙ sym b.long)
     (λ k l. let inside : k < limit.kinds = rw (← a.long) l in peak_one g t k _ _ (a.each k inside) (b.each k inside))
 
--- any two answers that peak use may give are one
-pub peak_answer_one : (g : Graph) (t : List ℕ) (p q : Result (List ℕ) Refusal) → PeakAnswer g t p → PeakAnswer g t q → p ≡ q
+-- so what is counted with the same refusal, or with none, is one answer
+pub counts_one : (g : Graph) (t : List ℕ) (p q : Result (List ℕ) Refusal) → refusal_of p ≡ refusal_of q → Counts g t p → Counts g t q → p ≡ q
 unfolding Counts
-peak_answer_one g t p q a b =
+counts_one g t p q same a b =
     answers_one p q
     (λ x y e f.
     peaks_one g t x y
-    (subst (λ (r : Result (List ℕ) Refusal). Counts g t r) e a.counts)
-    (subst (λ (r : Result (List ℕ) Refusal). Counts g t r) f b.counts))
-    (first_one (peak_checks g t) (peak_ones g t) _ _ a.first b.first)
+    (subst (λ (r : Result (List ℕ) Refusal). Counts g t r) e a)
+    (subst (λ (r : Result (List ℕ) Refusal). Counts g t r) f b))
+    same
+
+-- any two answers that peak use may give are one
+pub peak_answer_one : (g : Graph) (t : List ℕ) (p q : Result (List ℕ) Refusal) → PeakAnswer g t p → PeakAnswer g t q → p ≡ q
+peak_answer_one g t p q a b =
+    counts_one g t p q (first_one (peak_checks g t) (peak_ones g t) _ _ a.first b.first) a.counts b.counts
