@@ -1,4 +1,4 @@
-// Unit use: the schedule checker.
+// Unit use: the schedule checker. How long the starts are is a clause of three functions here: they are the caller's, and no part of a `Work`.
 #![tactic(auto)]
 
 ghost use Rattle.std.specs.Prelude.{◌≡◌, List, ℕ, ◌+◌, ◌≤◌, length};

@@ -123,7 +123,8 @@ fn trail(order: &Order, starts: &[u16; OPERATIONS]) -> Walked
     walk(&back, first_blank(starts, order.weights.len()))
 }
 
-// Writes the cycle shown into the first entries of `out`, where 0 in `starts` marks the kept operations. Its length.
+// Writes the cycle shown into the first entries of `out`, where 0 in `starts` marks the kept operations, as `Placing`
+// leaves them. Its length.
 pub fn show(order: &Order, starts: &[u16; OPERATIONS], out: &mut [u16]) -> usize
     requires kept_at { KeptAt (order_in order.now) starts.now }
     requires cyclic { Cyclic (order_in order.now) }

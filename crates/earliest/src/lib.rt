@@ -93,7 +93,8 @@ fn rises(from: &[u16], to: &[u16]) -> bool {
 }
 
 // Rounds up and down until all are placed or one places none: what is left has start 0, as `Placing` and
-// the C interface's rows say, and waits for another that is left. How many are placed.
+// the C interface's rows say, and waits for another that is left. How many are placed: `Placing` speaks
+// of the row and the number. No `for`: the rounds end where one places none.
 pub fn earliest(weights: &[u16], from: &[u16], to: &[u16], starts: &mut [u32; OPERATIONS]) -> usize
     requires { Closed heaviest (ordered weights.now from.now to.now) }
     ensures { Placing (ordered weights.now from.now to.now) starts.new result }

@@ -3,7 +3,8 @@ ghost use Rattle.std.specs.Prelude.{◌≡◌, ◌+◌, ◌*◌, ◌≤◌, leng
 ghost use Rattle.engine.specs.Frame.{two, four, eight};
 ghost use Rattle.engine.specs.Laid.{BytesLaid, TwoLaid, FourLaid, EightLaid, WordsLaid};
 
-// The number in the two bytes from a place on.
+// The number in the two bytes from a place on. Each width has a promise of its own in the numbers of that width, here and below; the bytes
+// are lent whole with a place, as the definitions of the frame speak of them.
 pub fn read_two(bytes: &[u8], at: usize) -> u16
     requires { at + 2 ≤ length bytes.now }
     ensures { result ≡ two bytes.now at }

@@ -13,7 +13,7 @@ pub struct Row {
     pub len: usize,
 }
 
-// A question's bytes, and how far they are read.
+// A question's bytes, and how far they are read. Each method says that the bytes stay, since it is lent the cursor to move it.
 #[derive(Drop)]
 pub struct Cursor<'a> {
     bytes: &'a [u8],
@@ -88,6 +88,7 @@ impl<'a> Cursor<'a> {
     pub fn words(&mut self, into: &mut [u16]) -> Result<Row, Fault>
         ensures same { self.new.bytes.now ≡ self.old.bytes.now }
         ensures read { IfOk result (λ r. WordsRead self.old.bytes.now self.old.at r into.new self.new.at) }
+        ensures same_length { length into.new ≡ length into.old }
     {
         let len = self.length()?;
         if into.len() < len {
@@ -113,7 +114,8 @@ impl<'a> Cursor<'a> {
 
     // The last row, one of two-byte numbers, is read over the first entries of another. Where it lies.
     pub fn last_words(mut self, into: &mut [u16]) -> Result<Row, Fault>
-        ensures { IfOk result (λ r. AtEnd self.entry.bytes.now self.entry.at r into.new) }
+        ensures read { IfOk result (λ r. AtEnd self.entry.bytes.now self.entry.at r into.new) }
+        ensures same_length { length into.new ≡ length into.old }
     {
         let row = self.words(into)?;
         self.end()?;

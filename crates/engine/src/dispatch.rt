@@ -37,7 +37,8 @@ fn about(
     }
 }
 
-// The second number of a question that takes one: its bound or step. Where it takes none, nothing is read.
+// The second number of a question that takes one: its bound or step. Where it takes none, nothing is read, and 0 is
+// not looked at: an Option would be unwrapped at six questions.
 fn second_of(question: About, rest: &mut Cursor<'_>) -> Result<usize, Fault>
     ensures same { rest.new.bytes.now ≡ rest.old.bytes.now }
     ensures read { IfOk result (λ n. numbers_of question ≡ 2 → n ≡ eight rest.old.bytes.now rest.old.at) }

@@ -118,7 +118,8 @@ impl Engine {
     }
 }
 
-// Answers questions until the input ends, a question is cut off, or nobody reads the answers.
+// Answers questions until the input ends, a question is cut off, or nobody reads the answers. The loop has an end that no run reaches, since
+// a loop with none would need a handle that the repository does not take.
 pub fn serve(input: Stdin, output: Stdout) {
     let mut engine = Engine {
         input,

@@ -1,4 +1,5 @@
-// The list schedule's rule at one step: what is in use, and one pass in the order of priority that starts candidates.
+// The list schedule's rule at one step: what is in use, and one pass in the order of priority that starts candidates. A start of 0 is an
+// operation that is not placed: `Moves` and the C interface's row have it so.
 #![tactic(auto)]
 
 pub mod priority;
@@ -28,7 +29,7 @@ fn finished(start: u16, delay: u8, step: usize) -> bool
     start != 0 && usize::from(start) + usize::from(delay) - 1 < step
 }
 
-// Whether an operation with this start and busy time is placed and running.
+// Whether an operation with this start and busy time is placed and running. `unit_use` asks for a type too, and counts a start of 0.
 fn running(start: u16, busy: u8, step: usize) -> bool
     ensures { result ≡ runs_at start busy step }
 {

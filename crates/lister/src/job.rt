@@ -8,7 +8,8 @@ use edge_links::Links;
 use model::limits::OPERATIONS;
 use model::work::Work;
 
-// A sound graph with its units, the links of its edges by their higher ends, and each operation's window: its first and its last start.
+// A sound graph with its units, the links of its edges by their higher ends, and each operation's window: its first and its last start,
+// in the rows that `Windows` and the tables speak of.
 #[derive(Clone, Copy)]
 pub struct Job<'a> {
     pub work: Work<'a>,

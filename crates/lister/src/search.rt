@@ -26,7 +26,7 @@ fn still_after(after: Option<&[u16]>, i: usize, start: u16) -> Option<&[u16]>
 impl Job<'_> {
     // The least row that completes `starts`, of which i operations are placed: each start in i's window at which it fits, and the others behind it.
     // As long as the starts are those of the row asked after, it is the least that comes after that row.
-    // Whether there is one is a test beside the row, and no Option of a row: that would be copied at each operation on the way back.
+    // Whether there is one is a test beside the row, which is filled in place while the search goes on and back: an Option of it is no plainer.
     pub fn place(&self, starts: &mut [u16; OPERATIONS], i: usize, after: Option<&[u16]>) -> bool
         requires { Ready (job_in self.now) starts.old i (asked_of after) }
         ensures { Searched (job_in self.now) starts.old i (asked_of after.entry) starts.new result }

@@ -3,6 +3,7 @@ use crate::order::Order;
 
 // Delays, types, how many types there are, and where the edges leave and lead. Nothing is known of them: every question looks for itself.
 // Rows side by side, here and in `Order` and `Work`, and no row of structs: the C interface lends them so.
+// Unit counts and starts are lent beside it, by the questions that take them.
 #[derive(Clone, Copy)]
 pub struct Graph<'a> {
     pub delays: &'a [u8],

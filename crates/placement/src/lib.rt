@@ -1,4 +1,5 @@
-// Where an operation may stand, given those placed before it: its edges to them are kept, and its type has units enough while it runs.
+// Where an operation may stand, given those placed before it: its edges to them are kept, and its type has units enough while it runs. That an
+// index lies within the rows is a clause of each function: a type of such indices is no plainer.
 #![tactic(auto)]
 
 ghost use Rattle.std.specs.Prelude.{◌≡◌, ◌+◌, ◌≤◌, ◌<◌, length};
