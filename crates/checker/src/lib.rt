@@ -147,14 +147,5 @@ pub fn check(graph: &Graph, units: &[u8], bound: usize, starts: &[u16]) -> Resul
     ensures { Checked (graph_in graph.now) units.now bound starts.now result }
 {
     check_fault(graph, units, bound, starts)?;
-    let work = Work {
-        delays: graph.delays,
-        // an operation keeps its unit for its delay
-        busy: graph.delays,
-        types: graph.types,
-        units,
-        from: graph.from,
-        to: graph.to,
-    };
-    Ok(judge(&work, bound, starts))
+    Ok(judge(&graph.work(units), bound, starts))
 }

@@ -1,12 +1,12 @@
 -- How the answers are put together: each way out of `advance` and of `list_schedule` is an outcome that its contract allows.
 use Rattle.std.specs.Prelude.{◌≡◌, refl, false, ◌⊎◌, List, [], ◌++◌, ℕ, ◌+◌, ◌≤◌, ◌<◌, eqb, length, take, Ok, Err}
-use Rattle.std.proofs.Common.{sym, ap, subst, ◌∙◌, ⊎_elim, eq-eqb, eqb-true, arith}
+use Rattle.std.proofs.Common.{sym, ap, ◌∙◌, ⊎_elim, eq-eqb, eqb-true, arith}
 use Rattle.std.proofs.Math.Option.{Option, none, some}
 use Rattle.maths.specs.Cases.{equal}
 use Rattle.maths.specs.Rows.{at, over, take_at}
 use Rattle.maths.specs.Counting.{some_or_none}
 use Rattle.model.specs.Limits as limit
-use Rattle.model.specs.Graph.{Graph, Sound, order, many, lent}
+use Rattle.model.specs.Graph.{Graph, Sound, order, many}
 use Rattle.model.specs.Lent.{graph_in}
 use Rattle.model.specs.Tables.{Latency}
 use Rattle.model.specs.Refusals.{Check, First, output, unitless, cyclic, outside}
@@ -40,36 +40,21 @@ module _ (lends : graph.Graph) (units : List ℕ) where
   abbrev given : Graph
   given = graph_in lends
 
-  -- the same with so many types
-  abbrev typed : ℕ → Graph
-  typed k = lent lends.delays.now lends.types.now k lends.from.now lends.to.now
-
-  -- the graph as the code knows it: as many types as there are unit counts
-  abbrev counted : Graph
-  counted = typed (length units)
-
   -- it can be scheduled whole
-  can_all : Sound given → length units ≡ lends.kinds → First (unitless given units) none → First (cyclic (order given)) none → Doable counted units
-  can_all sound even staffed free =
-      subst (λ (k : ℕ). Doable (typed k) units) (sym even)
-      (doable given units sound (λ i l. omega arith) staffed free)
+  can_all : Sound given → length units ≡ lends.kinds → First (unitless given units) none → First (cyclic (order given)) none → Doable given units
+  can_all sound even staffed free = doable given units sound (λ i l. omega arith) staffed free
 
   module _ (h : First (graph_unit_checks given (eqb (length units) lends.kinds ≡ false) units) none) where
     front : First (advance_front given units) none
     front = advance_units given units none h
 
-    advance_even : length units ≡ lends.kinds
+    pub advance_even : length units ≡ lends.kinds
     advance_even = equal (passed_own given (Odd given units) _ front)
 
-    pub advance_can : Doable counted units
+    pub advance_can : Doable given units
     advance_can =
         let rest = first_none_append (unitless given units) (cyclic (order given)) (passed_rest given (Odd given units) _ front) in
         can_all (passed_sound given (Odd given units) _ front) advance_even rest.0 rest.1
-
-    -- what is known of one graph is known of the other
-    pub moves_given : {t t' : List ℕ} {step step' : ℕ} → Moves counted units t step t' step' → Moves given units t step t' step'
-    moves_given {t} {t'} {step} {step'} m =
-        subst (λ (k : ℕ). Moves (typed k) units t step t' step') advance_even m
 
   -- ---- the list schedule's ways out
   module _ {before mid : List ℕ} where
@@ -81,11 +66,11 @@ module _ (lends : graph.Graph) (units : List ℕ) where
       begun : Admitted (order given) (placed_unit_checks given (Odd given units) (length before) units) before (Ok s) mid
       begun = admitted_matched (matches_equal (length units) lends.kinds) h
 
-      list_even : length units ≡ lends.kinds
+      pub list_even : length units ≡ lends.kinds
       list_even = equal (passed_own given (Odd given units) _ (admitted_first begun))
 
       -- it can be scheduled whole, and the output has room
-      pub list_can : Doable counted units
+      pub list_can : Doable given units
       list_can =
           let rest = passed_rest given (Odd given units) (output given (length before) ++ unitless given units ++ cyclic (order given)) (admitted_first begun) in
           let last = first_none_append (output given (length before) ++ unitless given units) (cyclic (order given)) rest in
@@ -95,7 +80,7 @@ module _ (lends : graph.Graph) (units : List ℕ) where
       list_room = admitted_room begun
 
       -- answered: the list schedule is written
-      pub list_given : {row : List ℕ} {l : ℕ} {after : List ℕ} → ListRow counted units row → Latency (order given) row l
+      pub list_given : {row : List ℕ} {l : ℕ} {after : List ℕ} → ListRow given units row → Latency (order given) row l
           → after ≡ over (take (length lends.delays.now) row) mid → ListAnswer given units before (Ok l) after
       list_given {row} {l} {after} are ends written =
           let o = order given in
@@ -106,7 +91,7 @@ module _ (lends : graph.Graph) (units : List ℕ) where
           admitted_given begun [] (ListGiven given units before l) first_end
           (record {
             starts = front;
-            are = (subst (λ (k : ℕ). ListRow (typed k) units row) list_even are).are;
+            are = are.are;
             ends = record {
               within = within_same o shut row front same l ends.within;
               least = λ b w. ends.least b (within_same o shut front row back b w);

@@ -78,14 +78,7 @@ pub fn list_schedule(graph: &Graph, units: &[u8], out: &mut [u16]) -> Result<usi
     ensures { ListAnswer (graph_in graph.now) units.now out.old result out.new }
 {
     admission::placed_with_units(graph, units, units.len() == graph.kinds, out)?;
-    let row = schedule(&Work {
-        delays: graph.delays,
-        busy: graph.delays,
-        types: graph.types,
-        units,
-        from: graph.from,
-        to: graph.to,
-    });
+    let row = schedule(&graph.work(units));
     admission::rows::fill(&row, graph.delays.len(), out);
     Ok(latency::latency(graph.delays, &row))
 }
@@ -112,14 +105,7 @@ impl State {
         if !(1..=STEPS).contains(&self.step) {
             return Err(Refusal::Step);
         }
-        let work = Work {
-            delays: graph.delays,
-            busy: graph.delays,
-            types: graph.types,
-            units,
-            from: graph.from,
-            to: graph.to,
-        };
+        let work = graph.work(units);
         self.starts = next_starts(&work, self.step, self.starts);
         self.step += 1;
         Ok(())

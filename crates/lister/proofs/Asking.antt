@@ -1,5 +1,5 @@
 -- A question put together: what admission refuses, the windows, and then what the search found.
-use mathlib.Core.Path.{◌≡◌, refl, sym, subst}
+use mathlib.Core.Path.{◌≡◌, refl, subst}
 use mathlib.Core.Bool.{Bool, true, false}
 use mathlib.Core.Option.{Option, none, some}
 use mathlib.Core.List.{List}
@@ -13,7 +13,7 @@ use Rattle.maths.specs.Cases.{Tells, none_some, some_one, equal}
 use Rattle.maths.specs.Tests.{clash, off}
 use Rattle.model.specs.Limits as limit
 use Rattle.model.specs.Order.{Closed}
-use Rattle.model.specs.Graph.{Graph, order, many, graph_of, Sound, BusySound}
+use Rattle.model.specs.Graph.{Graph, order, many, Sound}
 use Rattle.model.specs.Lent.{graph_in}
 use Rattle.model.specs.declared.graph.Graph as lent
 use Rattle.model.specs.Refusals.{First, ListerUneven, product, many_windows}
@@ -21,7 +21,6 @@ use Rattle.model.specs.Listing.{Gives, ListerAnswer}
 use Rattle.model.specs.declared.Refusal.{Refusal}
 use Rattle.model.specs.declared.Refusal.TheVariants.{TooManyWindows}
 use Rattle.model.specs.declared.Listed.{Listed}
-use Rattle.theory.specs.unit_use.BusyTimes.{busy_lent}
 use Rattle.theory.specs.refusals.FirstRefusal.{first_none_append}
 use Rattle.theory.specs.refusals.SoundGraph.{closed}
 use Rattle.theory.specs.refusals.RowAfterwards.{WritesNothing}
@@ -81,8 +80,8 @@ module _ (l : lent.Graph) (units : List ℕ) (bound : ℕ) (asked : Option (List
       begun : Admitted (order g) (placed_unit_within_checks g Odd (length before) units bound) before (Ok s) out
       begun = admitted_matched m h
 
-      sound : Sound g
-      sound = admitted_sound begun
+      pub ask_sound : Sound g
+      ask_sound = admitted_sound begun
 
       early : StartsRow (order g) s
       early = admitted_starts begun
@@ -90,28 +89,21 @@ module _ (l : lent.Graph) (units : List ℕ) (bound : ℕ) (asked : Option (List
       on : matched ≡ true
       on = matches_yes m (passed_own g Odd _ (admitted_first begun))
 
-      counts : length units ≡ g.kinds
-      counts = matched_counts g units asked m on
+      pub ask_counts : length units ≡ g.kinds
+      ask_counts = matched_counts g units asked m on
 
       bounded : First (bound_checks (order g) bound) none
       bounded = (first_none_append (placed_unit_checks g Odd (length before) units) (bound_checks (order g) bound) (admitted_first begun)).1
 
       -- the graph's order is closed, and there are latest starts
       pub ask_closed : Closed limit.longest (order g)
-      ask_closed = closed g sound
+      ask_closed = closed g ask_sound
 
       pub ask_low : bound ≤ limit.steps
       ask_low = bound_low (order g) bound bounded
 
       pub ask_within : RoomWithin (order g) bound
       ask_within = record { row = s; keeps = early.is.keeps; within = bound_within (order g) bound bounded early }
-
-      -- it is sound with as many types as there are unit counts
-      pub ask_sound : Sound (graph_of g.delays g.delays g.types (length units) g.from g.to)
-      ask_sound = subst (λ (n : ℕ). Sound (graph_of g.delays g.delays g.types n g.from g.to)) (sym counts) sound
-
-      pub ask_busy : BusySound (graph_of g.delays g.delays g.types (length units) g.from g.to)
-      ask_busy = busy_lent ask_sound
 
       -- the row asked after and the output have an entry for each operation
       pub ask_reaches : Reaches asked (many g)
@@ -133,11 +125,10 @@ module _ (l : lent.Graph) (units : List ℕ) (bound : ℕ) (asked : Option (List
 
         -- what the search answers is the question's answer
         pub ask_sought : (limit.windows < product (spans s late (many g)) (many g) → ⊥) → {r : Listed} {after : List ℕ}
-            → Sought (record { graph = graph_of g.delays g.delays g.types (length units) g.from g.to; units = units; early = s; late = late }) asked out r after
+            → Sought (record { graph = g; units = units; early = s; late = late }) asked out r after
             → ListerAnswer g units bound asked before (Ok r) after
         ask_sought few {r} {after} found =
             admitted_given begun (many_windows g bound) (Gives g units bound asked before (Ok r))
             (windows_few g ask_closed bound ask_low s early.is k few)
-            (subst (λ (n : ℕ). Gives (graph_of g.delays g.delays g.types n g.from g.to) units bound asked before (Ok r) after) counts
-            (subst (λ (x : List ℕ). Gives (graph_of g.delays g.delays g.types (length units) g.from g.to) units bound asked x (Ok r) after) (admitted_kept begun)
-            (found.gives bound early.is k.is)))
+            (subst (λ (x : List ℕ). Gives g units bound asked x (Ok r) after) (admitted_kept begun)
+            (found.gives bound early.is k.is))

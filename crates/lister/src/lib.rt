@@ -18,7 +18,6 @@ ghost use Rattle.lister.specs.Asking.{Sought};
 use crate::job::Job;
 use model::graph::Graph;
 use model::limits::{OPERATIONS, WINDOWS};
-use model::work::Work;
 use model::{Listed, Refusal};
 
 // Whether the rows that only the lister takes have the length that they must have: a unit count for each type, and an entry for each
@@ -72,16 +71,10 @@ fn ask(
     let matched = rows_match(graph, units, after);
     let early = admission::placed_with_units_within(graph, units, matched, bound, out)?;
     let late = tables::latest(&graph.order(), bound);
+    let work = graph.work(units);
     let job = Job {
-        work: Work {
-            delays: graph.delays,
-            busy: graph.delays,
-            types: graph.types,
-            units,
-            from: graph.from,
-            to: graph.to,
-        },
-        links: placement::higher_links(graph.from, graph.to),
+        work,
+        links: placement::higher_links(work.from, work.to),
         early,
         late,
     };

@@ -1,5 +1,6 @@
 // The graph, as it is lent.
 use crate::order::Order;
+use crate::work::Work;
 
 // Delays, types, how many types there are, and where the edges leave and lead. Nothing is known of them: every question looks for itself.
 // Rows side by side, here and in `Order` and `Work`, and no row of structs: the C interface lends them so.
@@ -14,11 +15,11 @@ pub struct Graph<'a> {
 }
 
 impl<'a> Graph<'a> {
-    ghost use Rattle.std.specs.Prelude.{◌≡◌};
+    ghost use Rattle.std.specs.Prelude.{◌≡◌, length};
     ghost use Rattle.model.specs.Limits as limit;
     ghost use Rattle.model.specs.Order.{Closed};
-    ghost use Rattle.model.specs.Graph.{order};
-    ghost use Rattle.model.specs.Lent.{graph_in, order_in};
+    ghost use Rattle.model.specs.Graph.{Sound, order};
+    ghost use Rattle.model.specs.Lent.{graph_in, order_in, work_in};
 
     // What precedence reads of it, where refusals 1 to 4 leave it sound.
     pub fn order(&self) -> Order<'a>
@@ -29,6 +30,31 @@ impl<'a> Graph<'a> {
             weights: self.delays,
             from: self.from,
             to: self.to,
+        }
+    }
+
+    // The graph with a number of units for each type, where refusals 1 to 4 leave it sound.
+    pub fn work(&self, units: &'a [u8]) -> Work<'a>
+        requires sound { Sound (graph_in self.now) }
+        requires units_len { length units.now ≡ self.now.kinds }
+        ensures graph { work_in result ≡ graph_in self.now }
+        ensures units { result.units.now ≡ units.now }
+    {
+        let Graph {
+            delays,
+            types,
+            from,
+            to,
+            ..
+        } = *self;
+        Work {
+            delays,
+            // an operation keeps its unit for its delay
+            busy: delays,
+            types,
+            units,
+            from,
+            to,
         }
     }
 }

@@ -10,3 +10,20 @@ pub struct Order<'a> {
     pub to: &'a [u16],
     pub ghost closed: { Closed limit.longest (ordered weights.now from.now to.now) },
 }
+
+impl<'a> Order<'a> {
+    ghost use Rattle.std.specs.Prelude.{◌≡◌};
+    ghost use Rattle.model.specs.Order.{turned};
+    ghost use Rattle.model.specs.Lent.{order_in};
+
+    // Every edge the other way round: what bounds the ends of the one bounds those of the other.
+    pub fn turned(&self) -> Order<'a>
+        ensures { order_in result ≡ turned (order_in self.now) }
+    {
+        Order {
+            weights: self.weights,
+            from: self.to,
+            to: self.from,
+        }
+    }
+}

@@ -18,11 +18,7 @@ pub fn latest(order: &Order, bound: usize) -> [u16; OPERATIONS]
     requires room_within { RoomWithin (order_in order.now) bound }
     ensures { LatestRow (order_in order.now) bound result }
 {
-    let turned = Order {
-        weights: order.weights,
-        from: order.to,
-        to: order.from,
-    };
+    let turned = order.turned();
     let mut back = [0u16; OPERATIONS];
     earliest::by_delays(&turned, &mut back);
     let mut starts = [0u16; OPERATIONS];

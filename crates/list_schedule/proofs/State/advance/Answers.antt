@@ -4,8 +4,7 @@ use Rattle.std.specs.Range.{range_inclusive_end}
 use Rattle.std.proofs.lemmas.Bool.Decides.{nat_tests}
 use Rattle.model.specs.Limits as limit
 use Rattle.std.proofs.lemmas.Result.{err_from_is_err_and}
-use Rattle.theory.specs.unit_use.BusyTimes.{busy_lent}
-use Rattle.list_schedule.proofs.Answering.{advance_can, moves_given, advance_refused, advance_whole, advance_outside, advance_moves}
+use Rattle.list_schedule.proofs.Answering.{advance_even, advance_can, advance_refused, advance_whole, advance_outside, advance_moves}
 use Rattle.list_schedule.proofs.State.advance.Goals as goal
 
 pub returns-in_err-graph_with_units : goal.returns-in_err-graph_with_units
@@ -26,13 +25,14 @@ returns-then-not-contains c =
     advance_outside c.in_ok-graph_with_units.ensures (c.full.ensures.none c.if-full.false)
     (⊎_elim (λ l. inl l) (λ l. inr (omega (arith, c.new.ensures.end))) out)
 
-pub invariant_of-work : goal.invariant_of-work
-invariant_of-work c =
-    let sound = (advance_can c.args.graph.now c.args.units.now c.in_ok-graph_with_units.ensures).sound in
-    record { sound = sound; busy_sound = busy_lent sound }
+pub work-work-requires-clause-sound : goal.work-work-requires-clause-sound
+work-work-requires-clause-sound c = (advance_can c.args.graph.now c.args.units.now c.in_ok-graph_with_units.ensures).sound
+
+pub work-work-requires-clause-units_len : goal.work-work-requires-clause-units_len
+work-work-requires-clause-units_len c = advance_even c.args.graph.now c.args.units.now c.in_ok-graph_with_units.ensures
 
 pub next_starts-self-requires-clause-doable : goal.next_starts-self-requires-clause-doable
-next_starts-self-requires-clause-doable c = advance_can c.args.graph.now c.args.units.now c.in_ok-graph_with_units.ensures
+next_starts-self-requires-clause-doable c = rw (c.work-work.ensures.graph, c.work-work.ensures.units) (advance_can c.args.graph.now c.args.units.now c.in_ok-graph_with_units.ensures)
 
 pub returns : goal.returns
 returns c =
@@ -41,4 +41,4 @@ returns c =
     let told = sym c.contains.ensures.value ∙ c.if-not-contains.false in
     let within : (1 ≤ a.self.now.step) × (a.self.now.step ≤ limit.steps) = (grind (arith, nat_tests), grind (arith, nat_tests)) in
     advance_moves passed (c.full.ensures.none c.if-full.false) within.0 within.1
-    (moves_given a.graph.now a.units.now passed c.next_starts-self.ensures)
+    (rw (c.work-work.ensures.graph, c.work-work.ensures.units) at c.next_starts-self.ensures)
