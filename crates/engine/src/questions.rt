@@ -1,6 +1,6 @@
 // The questions about a graph: the rows that are the question's own are read from the bytes after the graph and lent, and what the
-// face says is the reply. Nine functions for nine questions: each calls another function of the face, with its own rows; one over a closure
-// that is lent the output row is no plainer.
+// face says is the reply. Nine functions for nine questions: each calls another function of the face, with its own rows. One over a closure that
+// is lent the row was tried: it is longer by 25 lines, and what the face says inside the closure was not proved of the reply.
 ghost use Rattle.model.specs.Lent.{graph_in};
 ghost use Rattle.engine.specs.Asked.{AsapReply, AlapReply, MobilityReply, ListReply, AdvanceReply, CheckReply, PeakReply, FirstReply, NextReply};
 
