@@ -13,7 +13,7 @@ pub fn rows_match(units: usize, kinds: usize, entries: usize, operations: usize)
     units == kinds && entries == operations
 }
 
-// The output's first n entries are the row's, and the rest of the output stays. The row has a fixed size, so n stands beside it.
+// The output's first n entries are the row's, and the rest of the output stays. `fill_one` speaks of the row and of n.
 pub fn fill(row: &[u16; OPERATIONS], n: usize, out: &mut [u16])
     requires n_le_operations { n ≤ limit.operations }
     requires n_in_bounds { n ≤ length out.old }

@@ -19,7 +19,7 @@ fn too_large(graph: &Graph) -> bool
     OPERATIONS < graph.delays.len() || EDGES < graph.from.len() || KINDS < graph.kinds
 }
 
-// Whether rows that must match differ in length.
+// Whether rows that must match differ in length. That they do not is then a clause of the tests that follow: each rests on the one before.
 fn uneven(graph: &Graph, matched: bool) -> bool
     ensures { Tells result (Uneven (graph_in graph.now) (matched ≡ false)) }
 {

@@ -114,6 +114,7 @@ fn judge(work: &Work, bound: usize, starts: &[u16]) -> Finding
     if let Some(i) = untimely(work.delays, bound, starts) {
         return Finding::Untimely(i);
     }
+    // made here: with a method of `Work` the proof did not close
     let order = Order {
         weights: work.delays,
         from: work.from,

@@ -81,7 +81,8 @@ fn backs(order: &Order, starts: &[u16; OPERATIONS]) -> [u16; OPERATIONS]
     back
 }
 
-// The lowest of the first n operations whose start is 0, or n. No Option: who asks knows that there is one.
+// The lowest of the first n operations whose start is 0, or n. No Option: who asks knows that there is one, and
+// `FirstBlank` speaks of n.
 fn first_blank(starts: &[u16; OPERATIONS], n: usize) -> usize
     requires { n ≤ limit.operations }
     ensures { FirstBlank starts.now n result }

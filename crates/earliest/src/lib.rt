@@ -17,7 +17,8 @@ use edge_links::Links;
 use model::limits::OPERATIONS;
 use model::order::Order;
 
-// An order whose edges are linked by their targets: those that enter an operation are found from the last to the first.
+// An order whose edges are linked by their targets: those that enter an operation are found from the last to the first. It is not model's
+// `Order`, since its weights are wider; `earliest` takes the three rows, as `earliest_one` speaks of them.
 #[derive(Clone, Copy)]
 struct LinkedOrder<'a> {
     weights: &'a [u16],

@@ -11,7 +11,8 @@ use model::limits::{EDGES, OPERATIONS};
 pub const LINKS: usize = OPERATIONS + EDGES;
 
 // The row of links: for each operation the last edge with that end, and for each edge the one before it with the same end. A link is an
-// edge's number counted from 1, and 0 where there is none: `Linked` and `link_one` speak of this row, and `last` and `before` read it.
+// edge's number counted from 1, and 0 where there is none: `Linked` and `link_one` speak of this row, and `last` and `before` read it. Who walks along
+// the links does so by `while let`: what each of three walks does at an edge and where it ends differs, so an iterator is no plainer.
 #[derive(Clone, Copy)]
 pub struct Links {
     pub row: [u16; LINKS],

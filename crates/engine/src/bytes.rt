@@ -20,7 +20,7 @@ pub fn read_four(bytes: &[u8], at: usize) -> u32
     u32::from_le_bytes([bytes[at], bytes[at + 1], bytes[at + 2], bytes[at + 3]])
 }
 
-// The number in the eight bytes from a place on.
+// The number in the eight bytes from a place on: by its two halves, as `eight` is defined.
 pub fn read_eight(bytes: &[u8], at: usize) -> usize
     requires { at + 8 ≤ length bytes.now }
     ensures { result ≡ eight bytes.now at }

@@ -6,7 +6,8 @@ use crate::bytes::{read_eight, read_four, read_two};
 use crate::fault::Fault;
 use crate::sizes::LONGEST;
 
-// Where the entries of a row of two-byte numbers lie among a question's bytes.
+// Where the entries of a row of two-byte numbers lie among a question's bytes. A place and a length, and no slice: the row is written over the
+// bytes when they are lent no more.
 #[derive(Clone, Copy)]
 pub struct Row {
     pub at: usize,

@@ -21,8 +21,8 @@ pub fn latency(delays: &[u8], starts: &[u16]) -> usize
         .unwrap_or(0)
 }
 
-// The first n entries of one row less those of another that lies nowhere above it, and zeros after them. The rows have a fixed size, with no
-// heap, so n stands beside them.
+// The first n entries of one row less those of another that lies nowhere above it, and zeros after them.
+// `differences_one` speaks of the rows and of n.
 pub fn differences(high: &[u16; OPERATIONS], low: &[u16; OPERATIONS], n: usize) -> [u16; OPERATIONS]
     requires { Under high.now low.now n }
     ensures { Differences high.now low.now n result }

@@ -25,7 +25,7 @@ pub struct State {
     pub starts: [u16; OPERATIONS],
 }
 
-// Whether the first n starts are all there. The row has a fixed size, so n stands beside it.
+// Whether the first n starts are all there: `Full` speaks of n.
 fn full(starts: &[u16; OPERATIONS], n: usize) -> bool
     requires { n ≤ limit.operations }
     ensures { Tells result (Full n starts.now) }
@@ -33,7 +33,8 @@ fn full(starts: &[u16; OPERATIONS], n: usize) -> bool
     !starts[..n].contains(&0)
 }
 
-// The rule at step 1, 2, 3 and so on, from nothing placed until all are, which they are after the last step at the latest.
+// The rule at step 1, 2, 3 and so on, from nothing placed until all are, which they are after the last step at the latest. The work's order is
+// made here and below as in `list_step::apply`.
 fn schedule(work: &Work) -> [u16; OPERATIONS]
     requires { Doable (work_in work.now) work.now.units.now }
     ensures { ListRow (work_in work.now) work.now.units.now result }

@@ -63,7 +63,8 @@ pub fn is_candidate(
     true
 }
 
-// How many operations of each type are running: one pass over the operations.
+// How many operations of each type are running: one pass over the operations, for what is placed. `unit_use` counts one type of the first so
+// many; as there, the rows are lent by themselves.
 pub fn in_use(busy: &[u8], types: &[u8], starts: &[u16; OPERATIONS], step: usize) -> [usize; KINDS]
     requires { Typed types.now (length busy.now) }
     ensures { CountsByValue (at types.now) (uses_at busy.now starts.now step) limit.kinds result (length busy.now) }
@@ -93,12 +94,14 @@ pub fn apply(
     requires starts_len { length starts.old ≡ limit.operations }
     ensures { Moves (work_in work.now) work.now.units.now starts.old step starts.new (step + 1) }
 {
+    // made here: with a method of `Work` the proof did not close
     let order = Order {
         weights: work.delays,
         from: work.from,
         to: work.to,
     };
     let mut used = in_use(work.busy, work.types, starts, step);
+    // by rank: what is proved of the rule speaks of how many ranks have had their turn
     for turn in 0..work.types.len() {
         let i = usize::from(ranked[turn]);
         let kind = usize::from(work.types[i]);

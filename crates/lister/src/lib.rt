@@ -21,7 +21,7 @@ use model::limits::{OPERATIONS, WINDOWS};
 use model::{Listed, Refusal};
 
 // Whether the rows that only the lister takes have the length that they must have: a unit count for each type, and an entry for each
-// operation in the row asked after.
+// operation in the row asked after. The lister's own, since that row may be absent.
 fn rows_match(graph: &Graph, units: &[u8], after: Option<&[u16]>) -> bool
     ensures { Tells result ((length units.now ≡ graph.now.kinds) × IfSome after.entry (λ row. length row.now ≡ length graph.now.delays.now)) }
 {

@@ -14,7 +14,7 @@ pub const LONGEST: usize = 16;
 pub const STEPS: usize = 1024;
 
 pub const WINDOWS: usize = 1000000;
-// The tally has a cell for each step from 0 to the last and each type.
+// A tally has a cell for each step from 0 to the last and each type: how many that is, `cells_limit` says.
 pub const CELLS: usize = (STEPS + 1) * KINDS;
 
 // The most operations that a graph may have.

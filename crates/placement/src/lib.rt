@@ -55,7 +55,7 @@ fn kept(work: &Work, starts: &[u16], e: usize) -> bool
     starts[a] as usize + work.delays[a] as usize <= starts[b] as usize
 }
 
-// The links of the edges by their higher ends.
+// The links of the edges by their higher ends, which are all that it needs of an order.
 pub fn higher_links(from: &[u16], to: &[u16]) -> Links
     requires { LinkableEnds from.now × LinkableEnds to.now × (length from.now ≡ length to.now) }
     ensures { Linked (highers from.now to.now) result.row }

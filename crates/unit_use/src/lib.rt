@@ -13,6 +13,7 @@ fn runs(own: u8, start: u16, busy: u8, kind: u8, step: u16) -> bool
 }
 
 // How many of the first `first` operations are of type `kind` and running at `step`. The rows are lent by themselves: peak use has no `Work`.
+// Three rows are read at one place: a chain of zips and a count of it is no plainer.
 pub fn in_use(busy: &[u8], types: &[u8], starts: &[u16], kind: u8, step: u16, first: usize) -> usize
     requires { (first ≤ length busy.now) × (first ≤ length types.now) × (first ≤ length starts.now) }
     ensures { result ≡ first_in_use busy.now types.now starts.now kind step first }

@@ -1,5 +1,6 @@
 // Views of the two channels' start tables: a part of the table asked for, in that table's own memory, and why there is none. A channel is any
-// number, and a view cannot fail: `Viewed` and `ViewRefusal` answer for every number, so there are two functions.
+// number, and a view cannot fail: `Viewed` and `ViewRefusal` answer for every number, so there are two functions, which
+// take the same five things as a user lends them.
 #![tactic(auto)]
 
 ghost use Rattle.std.specs.Prelude.{◌+◌, ◌≤◌};
