@@ -10,3 +10,4 @@ pub mod Checker
 pub mod AllListed
 pub mod ListerAnswers
 pub mod Views
+pub mod Searches
