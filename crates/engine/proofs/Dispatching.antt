@@ -1,7 +1,7 @@
 -- The reply to a question about the graph that was read is the one to the graph of the bytes.
 use Rattle.std.proofs.Common.{◌≡◌, List, ℕ, ◌*◌, subst, refl, Result}
 use Rattle.model.specs.Graph.{Graph, lent}
-use Rattle.engine.specs.Frame.{eight, bytes_at, words_at, past_bytes, past_words, types_from, from_from, to_from, rest_from, graph_in}
+use Rattle.engine.specs.Frame.{eight, bytes_at, words_at, past_bytes, past_words, types_from, from_from, to_from, rest_from, graph_at}
 use Rattle.engine.specs.Numbers.{numbers_of}
 use Rattle.engine.specs.Dispatch.{GraphReply, Replied}
 use Rattle.engine.specs.declared.reply.Reply.{Reply}
@@ -28,8 +28,8 @@ pub record GraphRead (b : List ℕ) (count kinds : ℕ) (delays types from to : 
   pub rest_is : rest ≡ past_words b past_from
 
 module _ {b delays types from to : List ℕ} {count kinds rest : ℕ} (h : GraphRead b count kinds delays types from to rest) where
-  graph_is : lent delays types kinds from to ≡ graph_in b count
-  unfolding graph_in types_from from_from to_from
+  graph_is : lent delays types kinds from to ≡ graph_at b count
+  unfolding graph_at types_from from_from to_from
   graph_is = cc
 
   rest_at : rest ≡ rest_from b count
@@ -54,7 +54,7 @@ pub replied : {b bytes delays types from to : List ℕ} (row : List ℕ) {kinds 
     → GraphRead b (numbers_of q) kinds delays types from to rest → bytes ≡ b → (numbers_of q ≡ 2 → second ≡ eight b 8)
     → GraphReply (lent delays types kinds from to) second bytes rest r row q → Replied b r row (questions.Graph q)
 replied {b} {bytes} row {rest = rest} {second} r q h same s reply =
-    same_second (graph_in b (numbers_of q)) b row (rest_from b (numbers_of q)) second r q s
-    (subst (λ (x : List ℕ). GraphReply (graph_in b (numbers_of q)) second x (rest_from b (numbers_of q)) r row q) same
-    (subst (λ (i : ℕ). GraphReply (graph_in b (numbers_of q)) second bytes i r row q) (rest_at h)
+    same_second (graph_at b (numbers_of q)) b row (rest_from b (numbers_of q)) second r q s
+    (subst (λ (x : List ℕ). GraphReply (graph_at b (numbers_of q)) second x (rest_from b (numbers_of q)) r row q) same
+    (subst (λ (i : ℕ). GraphReply (graph_at b (numbers_of q)) second bytes i r row q) (rest_at h)
     (subst (λ (g : Graph). GraphReply g second bytes rest r row q) (graph_is h) reply)))

@@ -1,7 +1,7 @@
 -- What is replied to each question, and which number it has.
 use Rattle.std.specs.Prelude.{List, ◌≡◌, ℕ, ◌<◌, ◌⊎◌, Result, Err}
 use Rattle.model.specs.Graph.{Graph}
-use Rattle.engine.specs.Frame.{eight, rest_from, graph_in}
+use Rattle.engine.specs.Frame.{eight, rest_from, graph_at}
 use Rattle.engine.specs.Numbers.{number_of, numbers_of}
 use Rattle.engine.specs.Asked.{AsapReply, AlapReply, MobilityReply, ListReply, AdvanceReply, CheckReply, PeakReply, FirstReply, NextReply, ViewReply}
 use Rattle.engine.specs.declared.reply.Reply.{Reply}
@@ -26,7 +26,7 @@ GraphReply g second b rest r row abouts.Next = NextReply g second b rest r row
 
 -- the reply to each question that the bytes hold: about their graph, after one number or two, or about two tables
 abbrev pub Replied : List ℕ → Result Reply Fault → List ℕ → question.Question → Type 0
-Replied b r row (questions.Graph q) = GraphReply (graph_in b (numbers_of q)) (eight b 8) b (rest_from b (numbers_of q)) r row q
+Replied b r row (questions.Graph q) = GraphReply (graph_at b (numbers_of q)) (eight b 8) b (rest_from b (numbers_of q)) r row q
 Replied b r row questions.View = ViewReply (eight b 0) (eight b 8) (eight b 16) b 24 r
 
 -- the reply to the question that has the number; where none has it, nothing was asked

@@ -59,5 +59,5 @@ unfoldable pub rest_from : List ℕ → ℕ → ℕ
 rest_from b count = past_words b (to_from b count)
 
 -- the graph of a question: the first number is K
-unfoldable pub graph_in : List ℕ → ℕ → Graph
-graph_in b count = lent (bytes_at b (delays_from b count)) (bytes_at b (types_from b count)) (eight b 0) (words_at b (from_from b count)) (words_at b (to_from b count))
+unfoldable pub graph_at : List ℕ → ℕ → Graph
+graph_at b count = lent (bytes_at b (delays_from b count)) (bytes_at b (types_from b count)) (eight b 0) (words_at b (from_from b count)) (words_at b (to_from b count))
