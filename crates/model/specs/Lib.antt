@@ -16,3 +16,4 @@ pub mod Rule
 pub mod Scheduling
 pub mod Listing
 pub mod Lent
+pub mod OneAnswer

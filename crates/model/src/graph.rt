@@ -19,12 +19,13 @@ impl<'a> Graph<'a> {
     ghost use Rattle.model.specs.Limits as limit;
     ghost use Rattle.model.specs.Order.{Closed};
     ghost use Rattle.model.specs.Graph.{Sound, order};
-    ghost use Rattle.model.specs.Lent.{graph_in, order_in, work_in};
+    ghost use Rattle.model.specs.Lent.{graph_in, order_in, work_in, OrderRows, WorkRows};
 
-    // What precedence reads of it, where refusals 1 to 4 leave it sound.
+    // What precedence reads of it, each row where it is lent, where refusals 1 to 4 leave it sound.
     pub fn order(&self) -> Order<'a>
         requires { Closed limit.longest (order (graph_in self.now)) }
-        ensures { order_in result ≡ order (graph_in self.now) }
+        ensures order { order_in result ≡ order (graph_in self.now) }
+        ensures rows { OrderRows self.now result }
     {
         Order {
             weights: self.delays,
@@ -33,12 +34,13 @@ impl<'a> Graph<'a> {
         }
     }
 
-    // The graph with a number of units for each type, where refusals 1 to 4 leave it sound.
+    // The graph with a number of units for each type, each row where it is lent, where refusals 1 to 4 leave it sound.
     pub fn work(&self, units: &'a [u8]) -> Work<'a>
         requires sound { Sound (graph_in self.now) }
         requires units_len { length units.now ≡ self.now.kinds }
         ensures graph { work_in result ≡ graph_in self.now }
         ensures units { result.units.now ≡ units.now }
+        ensures rows { WorkRows self.now units.entry result }
     {
         let Graph {
             delays,

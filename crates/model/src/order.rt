@@ -14,11 +14,12 @@ pub struct Order<'a> {
 impl<'a> Order<'a> {
     ghost use Rattle.std.specs.Prelude.{◌≡◌};
     ghost use Rattle.model.specs.Order.{turned};
-    ghost use Rattle.model.specs.Lent.{order_in};
+    ghost use Rattle.model.specs.Lent.{order_in, TurnedRows};
 
-    // Every edge the other way round: what bounds the ends of the one bounds those of the other.
+    // Every edge the other way round, each row where it is lent: what bounds the ends of the one bounds those of the other.
     pub fn turned(&self) -> Order<'a>
-        ensures { order_in result ≡ turned (order_in self.now) }
+        ensures order { order_in result ≡ turned (order_in self.now) }
+        ensures rows { TurnedRows self.now result }
     {
         Order {
             weights: self.weights,
