@@ -71,10 +71,16 @@ module _ {before part : List (List ℕ)} {kind start last wide passed : ℕ} (ca
       (le_or_lt l last))
       (lt_or_le l start)
 
+  -- a mark neither adds a row nor drops one
+  same_length : length marked ≡ length before
+  same_length =
+      omega (arith, length-append (take start before) (part ++ drop wide (drop start before)), length-append part (drop wide (drop start before)), length-drop wide (drop start before), length-drop start before, front, part_long, can.rows.long, can.forward, can.last_in)
+
   pub marked_rows : Marked before kind start (last + 1) marked
   marked_rows = record {
     rows = record {
-      long = omega (arith, length-append (take start before) (part ++ drop wide (drop start before)), length-append part (drop wide (drop start before)), length-drop wide (drop start before), length-drop start before, front, part_long, can.rows.long, can.forward, can.last_in);
+      long = same_length ∙ can.rows.long;
+      cells = omega (arith, same_length, can.rows.cells);
       wide = λ l p.
           each (λ (l : ℕ) (r : List ℕ). length r ≡ limit.kinds) l (λ e. can.rows.wide l p) (λ e. can.rows.wide l p)
           (λ e f. length-set (row before l) kind _ ∙ can.rows.wide l p);

@@ -33,6 +33,7 @@ tally_none {g} {t} = record {
   within = omega arith;
   rows = record {
     long = length-replicate {A = List ℕ} (limit.steps + 1) (replicate limit.kinds 0);
+    cells = omega (arith, length-replicate {A = List ℕ} (limit.steps + 1) (replicate limit.kinds 0));
     wide = λ l p. ap length (blank_row l p) ∙ length-replicate {A = ℕ} limit.kinds 0;
   };
   counters = λ l k p q. ap (λ (r : List ℕ). at r k) (blank_row l p) ∙ blank limit.kinds k ∙ sym (count_start (runs g t k l));

@@ -1,5 +1,5 @@
 -- The tally: a counter for each step and type, the mark that an operation leaves in it, and what is read off it.
-use Rattle.std.specs.Prelude.{◌≡◌, List, [], ℕ, ◌+◌, ◌≤◌, ◌<◌, length, get_or, Option, None, Some}
+use Rattle.std.specs.Prelude.{◌≡◌, List, [], ℕ, ◌+◌, ◌*◌, ◌≤◌, ◌<◌, length, get_or, Option, None, Some}
 use Rattle.maths.specs.Lowest.{Lowest}
 use Rattle.maths.specs.Rows.{at}
 use Rattle.maths.specs.Count.{bit, count}
@@ -16,9 +16,10 @@ row tally l = get_or tally l []
 abbrev pub cell : List (List ℕ) → ℕ → ℕ → ℕ
 cell tally l k = at (row tally l) k
 
--- a row for each step from 0 to the last, with a counter for each type
+-- a row for each step from 0 to the last, with a counter for each type: as many counters as the limit says
 pub record Rows (tally : List (List ℕ)) : Type 0 where
   pub long : length tally ≡ limit.steps + 1
+  pub cells : length tally * limit.kinds ≡ limit.cells
   pub wide : (l : ℕ) → l ≤ limit.steps → length (row tally l) ≡ limit.kinds
 
 -- the steps from `start` to `last` are the tally's, the type is one of its types, and no counter of that type is at its top

@@ -15,13 +15,16 @@ ghost use Rattle.checker.specs.Tally.{Markable, Marked, OverCell, Reads};
 ghost use Rattle.checker.specs.Findings.{Tallyable, Overs};
 
 use model::graph::Graph;
-use model::limits::{KINDS, STEPS};
+use model::limits::{CELLS, KINDS};
 use model::order::Order;
 use model::work::Work;
 use model::{Finding, Refusal};
 
+// How many rows the tally has: one for each step from 0 to the last. A row has a counter for each type, so the counters are `CELLS`.
+const TALLY_ROWS: usize = CELLS / KINDS;
+
 // Marks an operation in the tally: the counter of its type goes up at every step that it runs, the first and the last among them.
-fn mark(tally: &mut [[u16; KINDS]; STEPS + 1], kind: usize, start: usize, last: usize)
+fn mark(tally: &mut [[u16; KINDS]; TALLY_ROWS], kind: usize, start: usize, last: usize)
     requires { Markable tally.old kind start last }
     ensures { Marked tally.old kind start (last + 1) tally.new }
 {
@@ -43,7 +46,7 @@ fn over_at(row: &[u16; KINDS], units: &[u8]) -> Option<usize>
 
 // The first step from 1 to the bound, and its lowest type, whose counter is above the type's units.
 fn first_over(
-    tally: &[[u16; KINDS]; STEPS + 1],
+    tally: &[[u16; KINDS]; TALLY_ROWS],
     units: &[u8],
     bound: usize,
 ) -> Option<(usize, usize)>
@@ -70,7 +73,7 @@ fn over_use(
     requires { Tallyable busy.now types.now units.now bound starts.now }
     ensures { (delays from to : List ℕ) → length delays ≡ length busy.now → Overs (graph_of delays busy.now types.now (length units.now) from to) units.now starts.now result }
 {
-    let mut tally = [[0u16; KINDS]; STEPS + 1];
+    let mut tally = [[0u16; KINDS]; TALLY_ROWS];
     for (i, kind) in types.iter().enumerate() {
         let start = starts[i] as usize;
         let last = start + busy[i] as usize - 1;

@@ -13,4 +13,4 @@ pub order-requires : goal.order-requires
 order-requires c = closed _ (passed_sound _ _ _ c.in_ok-graph_fault.ensures)
 
 pub returns : goal.returns
-returns c = first_pass _ _ _ c.in_ok-graph_fault.ensures (rw c.order.ensures at c.cycle_fault.ensures)
+returns c = first_pass _ _ _ c.in_ok-graph_fault.ensures (rw c.order.ensures.order at c.cycle_fault.ensures)

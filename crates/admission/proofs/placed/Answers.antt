@@ -16,7 +16,7 @@ pub order-requires : goal.order-requires
 order-requires c = closed _ (passed_sound _ _ _ c.in_ok-front.ensures)
 
 pub place-requires : goal.place-requires
-place-requires c = record { room = omega (arith, passed_room _ _ _ _ c.in_ok-front.ensures, ap size c.order.ensures) }
+place-requires c = record { room = omega (arith, passed_room _ _ _ _ c.in_ok-front.ensures, ap size c.order.ensures.order) }
 
 pub returns : goal.returns
-returns c = admitted_passed _ (cyclic _) c.in_ok-front.ensures (rw c.order.ensures at c.place.ensures)
+returns c = admitted_passed _ (cyclic _) c.in_ok-front.ensures (rw c.order.ensures.order at c.place.ensures)

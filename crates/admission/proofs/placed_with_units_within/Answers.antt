@@ -13,7 +13,7 @@ pub order-requires : goal.order-requires
 order-requires c = closed _ (admitted_sound c.in_ok-starts.ensures)
 
 pub within-requires : goal.within-requires
-within-requires c = rw c.order.ensures (admitted_starts c.in_ok-starts.ensures)
+within-requires c = rw c.order.ensures.order (admitted_starts c.in_ok-starts.ensures)
 
 pub returns : goal.returns
-returns c = admitted_then c.in_ok-starts.ensures (bound_checks _ _) (rw c.order.ensures at c.within.ensures)
+returns c = admitted_then c.in_ok-starts.ensures (bound_checks _ _) (rw c.order.ensures.order at c.within.ensures)

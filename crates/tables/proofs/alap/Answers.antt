@@ -14,7 +14,7 @@ pub latest-late-requires-clause-bound_le_steps : goal.latest-late-requires-claus
 latest-late-requires-clause-bound_le_steps c = latest_low c.in_ok-placed_within.ensures
 
 pub latest-late-requires-clause-room_within : goal.latest-late-requires-clause-room_within
-latest-late-requires-clause-room_within c = rw c.order.ensures (latest_room c.in_ok-placed_within.ensures)
+latest-late-requires-clause-room_within c = rw c.order.ensures.order (latest_room c.in_ok-placed_within.ensures)
 
 pub fill-requires-clause-n_le_operations : goal.fill-requires-clause-n_le_operations
 fill-requires-clause-n_le_operations c = within_few c.in_ok-placed_within.ensures
@@ -23,4 +23,4 @@ pub fill-requires-clause-n_in_bounds : goal.fill-requires-clause-n_in_bounds
 fill-requires-clause-n_in_bounds c = within_room c.in_ok-placed_within.ensures
 
 pub returns : goal.returns
-returns c = alap_done c.in_ok-placed_within.ensures (rw c.order.ensures at c.latest-late.ensures) c.fill.ensures
+returns c = alap_done c.in_ok-placed_within.ensures (rw c.order.ensures.order at c.latest-late.ensures) c.fill.ensures

@@ -14,10 +14,10 @@ pub latest-late-requires-clause-bound_le_steps : goal.latest-late-requires-claus
 latest-late-requires-clause-bound_le_steps c = latest_low c.in_ok-starts.ensures
 
 pub latest-late-requires-clause-room_within : goal.latest-late-requires-clause-room_within
-latest-late-requires-clause-room_within c = rw c.order.ensures (latest_room c.in_ok-starts.ensures)
+latest-late-requires-clause-room_within c = rw c.order.ensures.order (latest_room c.in_ok-starts.ensures)
 
 pub differences-spread-requires : goal.differences-spread-requires
-differences-spread-requires c = under c.in_ok-starts.ensures (rw c.order.ensures at c.latest-late.ensures)
+differences-spread-requires c = under c.in_ok-starts.ensures (rw c.order.ensures.order at c.latest-late.ensures)
 
 pub fill-requires-clause-n_le_operations : goal.fill-requires-clause-n_le_operations
 fill-requires-clause-n_le_operations c = within_few c.in_ok-starts.ensures
@@ -26,4 +26,4 @@ pub fill-requires-clause-n_in_bounds : goal.fill-requires-clause-n_in_bounds
 fill-requires-clause-n_in_bounds c = within_room c.in_ok-starts.ensures
 
 pub returns : goal.returns
-returns c = mobility_done c.in_ok-starts.ensures (rw c.order.ensures at c.latest-late.ensures) c.differences-spread.ensures c.fill.ensures
+returns c = mobility_done c.in_ok-starts.ensures (rw c.order.ensures.order at c.latest-late.ensures) c.differences-spread.ensures c.fill.ensures
