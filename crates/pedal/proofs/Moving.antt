@@ -1,14 +1,11 @@
 -- The two ways through `pedal_advance`: the row is no state's, or the advance's starts are written over it whole.
-use mathlib.Core.Path.{◌≡◌, refl, sym, ap, subst, ◌∙◌}
+use mathlib.Core.Path.{◌≡◌, refl, ap, subst}
 use mathlib.Core.Bool.{false}
 use mathlib.Core.Option.{Option, none, some}
 use mathlib.Core.Logic.{inl, inr, ⊎_elim}
 use mathlib.Core.List.{List, ◌++◌}
 use Prim.Native.Nat.{ℕ}
-use native.Mathlib.Omega.{arith}
-use lib.ListN.{length, take}
-use lib.Seq.{take_all}
-use Rattle.maths.specs.Rows.{over, same_row, over_long, over_front}
+use lib.ListN.{length}
 use Rattle.model.specs.Limits as limit
 use Rattle.model.specs.Graph.{Graph, order}
 use Rattle.model.specs.Refusals.{Check, First, Uneven, shape, cyclic}
@@ -16,9 +13,7 @@ use Rattle.theory.specs.refusals.FirstRefusal.{flat_not}
 use Rattle.admission.specs.Admitted.{graph_checks}
 use Rattle.theory.specs.refusals.SoundGraph.{shape_own}
 use Rattle.model.specs.Answers.{refusal_of, Done}
-use Rattle.theory.specs.list.OneStep.{stepped_long}
-use Rattle.theory.specs.list.OneListAnswer.{all_or_not}
-use Rattle.model.specs.Scheduling.{AdvanceAnswer, StateAfter}
+use Rattle.model.specs.Scheduling.{AdvanceAnswer}
 use Rattle.pedal.specs.Face.{AdvanceSaid, refusal_of_or0}
 
 -- where the question's own rows do not match, one of refusals 1 and 2 is given, whatever follows

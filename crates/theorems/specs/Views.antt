@@ -6,13 +6,21 @@ use Rattle.std.proofs.Math.Option.{Option, none, some}
 use Prim.Native.Nat.{ℕ, ◌+◌}
 use Rattle.std.proofs.Math.ListN.{length, length-drop}
 use Rattle.std.proofs.Math.Seq.{length-take-le}
+use Rattle.std.specs.declared.option.Option as rust
 use Rattle.std.specs.declared.option.Option.TheVariants.{None, Some}
 use Rattle.maths.specs.Cases.{same_or_not, le_or_lt}
 use Rattle.model.specs.Refusals.{NoChannel}
+use Rattle.model.specs.Answers.{numbered}
 use Rattle.model.specs.Views.{PartOf, PartAfter, Viewed, ViewRefusal}
 use Rattle.model.specs.Channels.{Table, chosen}
+use Rattle.model.specs.declared.Refusal.{Refusal}
 use Rattle.model.specs.declared.Refusal.TheVariants.{Channel, Range}
 use Rattle.theory.specs.views.OneView.{Available, Named, PastEnd, passes, refuses_channel, refuses_range, view_checks_one, view_refusal_one}
+
+-- the number of a view's refusal, and 0 for none
+abbrev pub number_of_view : rust.Option Refusal → ℕ
+number_of_view None = 0
+number_of_view (Some why) = (numbered why).0
 
 -- a channel is one of the two or neither
 named_or_not : (channel : ℕ) → Named channel ⊎ NoChannel channel
@@ -63,6 +71,37 @@ module _ (a b : Table) (channel first count : ℕ) where
       (⊎_elim
       (λ n. absurd (cc (view_refusal_one a b channel first count (Some Range) (Some Channel) v (refuses_channel a b channel first count n))))
       (λ p. p))
+      one_of_three
+
+  -- the same of the number: any two answers that the checks allow have one
+  number_is : (x y : rust.Option Refusal) → ViewRefusal a b channel first count x → ViewRefusal a b channel first count y
+      → number_of_view x ≡ number_of_view y
+  number_is x y v w = ap number_of_view (view_refusal_one a b channel first count x y v w)
+
+  -- 0 only where the part is available
+  pub available_by_number : (x : rust.Option Refusal) → ViewRefusal a b channel first count x → number_of_view x ≡ 0 → Available a b channel first count
+  available_by_number x v e =
+      ⊎_elim
+      (λ h. h)
+      (⊎_elim
+      (λ n. absurd (omega (arith, e, number_is x (Some Channel) v (refuses_channel a b channel first count n))))
+      (λ p. absurd (omega (arith, e, number_is x (Some Range) v (refuses_range a b channel first count p)))))
+      one_of_three
+
+  -- 12 only where the channel is neither
+  pub no_channel_by_number : (x : rust.Option Refusal) → ViewRefusal a b channel first count x → number_of_view x ≡ 12 → NoChannel channel
+  no_channel_by_number x v e =
+      ⊎_elim
+      (λ h. absurd (omega (arith, e, number_is x None v (passes a b channel first count h))))
+      (⊎_elim (λ n. n) (λ p. absurd (omega (arith, e, number_is x (Some Range) v (refuses_range a b channel first count p)))))
+      one_of_three
+
+  -- 13 only where the table ends before the part does
+  pub past_end_by_number : (x : rust.Option Refusal) → ViewRefusal a b channel first count x → number_of_view x ≡ 13 → PastEnd a b channel first count
+  past_end_by_number x v e =
+      ⊎_elim
+      (λ h. absurd (omega (arith, e, number_is x None v (passes a b channel first count h))))
+      (⊎_elim (λ n. absurd (omega (arith, e, number_is x (Some Channel) v (refuses_channel a b channel first count n)))) (λ p. p))
       one_of_three
 
   -- the part handed back lies in the chosen table's memory, whatever the checks say
