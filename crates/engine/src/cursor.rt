@@ -79,22 +79,21 @@ impl<'a> Cursor<'a> {
     pub fn bytes(&mut self) -> Result<&'a [u8], Fault>
         ensures same { self.new.bytes.now ≡ self.old.bytes.now }
         ensures read { IfOk result (λ r. r.now ≡ bytes_at self.old.bytes.now self.old.at) }
+        ensures short { IfOk result (λ r. length r.now ≤ longest) }
         ensures moved { OnOk result (self.new.at ≡ past_bytes self.old.bytes.now self.old.at) }
     {
         let len = self.length()?;
         self.take(len)
     }
 
-    // The next row, one of two-byte numbers, is read over the first entries of another, and is too long where that is shorter. Where it lies.
+    // The next row, one of two-byte numbers, is read over the first entries of another, which has room for the longest. Where it lies.
     pub fn words(&mut self, into: &mut [u16]) -> Result<Row, Fault>
+        requires { longest ≤ length into.old }
         ensures same { self.new.bytes.now ≡ self.old.bytes.now }
         ensures read { IfOk result (λ r. WordsRead self.old.bytes.now self.old.at r into.new self.new.at) }
         ensures same_length { length into.new ≡ length into.old }
     {
         let len = self.length()?;
-        if into.len() < len {
-            return Err(Fault::TooLong);
-        }
         let at = self.at;
         let entries = self.take(2 * len)?;
         for (i, word) in into[..len].iter_mut().enumerate() {
@@ -113,8 +112,9 @@ impl<'a> Cursor<'a> {
         Ok(())
     }
 
-    // The last row, one of two-byte numbers, is read over the first entries of another. Where it lies.
+    // The last row, one of two-byte numbers, is read over the first entries of another, which has room for the longest. Where it lies.
     pub fn last_words(mut self, into: &mut [u16]) -> Result<Row, Fault>
+        requires { longest ≤ length into.old }
         ensures read { IfOk result (λ r. AtEnd self.entry.bytes.now self.entry.at r into.new) }
         ensures same_length { length into.new ≡ length into.old }
     {

@@ -1,8 +1,8 @@
 // From a question's number and bytes to its reply.
-ghost use Rattle.std.specs.Prelude.{◌≡◌, ◌+◌, ◌*◌, OnOk, IfOk};
+ghost use Rattle.std.specs.Prelude.{◌≡◌, ◌+◌, ◌*◌, ◌≤◌, length, OnOk, IfOk};
 ghost use Rattle.model.specs.Lent.{graph_in};
 ghost use Rattle.engine.specs.Asked.{ViewReply};
-ghost use Rattle.engine.specs.Frame.{eight};
+ghost use Rattle.engine.specs.Frame.{longest, eight};
 ghost use Rattle.engine.specs.Numbers.{numbers_of};
 ghost use Rattle.engine.specs.Dispatch.{GraphReply, Replied, Answers};
 
@@ -22,6 +22,7 @@ fn about(
     rest: Cursor<'_>,
     out: &mut [u16],
 ) -> Result<Reply, Fault>
+    requires { longest ≤ length out.old }
     ensures { GraphReply (graph_in graph.now) second rest.entry.bytes.now rest.entry.at result out.new question }
 {
     match question {
@@ -52,6 +53,7 @@ fn second_of(question: About, rest: &mut Cursor<'_>) -> Result<usize, Fault>
 
 // A question about a graph: the graph's numbers and rows are read and lent.
 fn graph_question(question: About, body: &[u8], out: &mut [u16]) -> Result<Reply, Fault>
+    requires { longest ≤ length out.old }
     ensures { Replied body.now result out.new (Question.Graph question) }
 {
     let mut rest = Cursor::new(body);
@@ -91,6 +93,7 @@ fn view(body: &[u8]) -> Result<Reply, Fault>
 
 // The reply to the question that has a number; the row that it writes is left in the first entries of `out`.
 pub fn ask(number: usize, body: &[u8], out: &mut [u16]) -> Result<Reply, Fault>
+    requires { longest ≤ length out.old }
     ensures { Answers body.now result out.new number }
 {
     match Question::try_from(number)? {

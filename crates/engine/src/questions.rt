@@ -1,7 +1,9 @@
 // The questions about a graph: the rows that are the question's own are read from the bytes after the graph and lent, and what the
 // face says is the reply. Nine functions for nine questions: each calls another function of the face, with its own rows. One over a closure that
 // is lent the row was tried: it is longer by 25 lines, and what the face says inside the closure was not proved of the reply.
+ghost use Rattle.std.specs.Prelude.{◌≤◌, length};
 ghost use Rattle.model.specs.Lent.{graph_in};
+ghost use Rattle.engine.specs.Frame.{longest};
 ghost use Rattle.engine.specs.Asked.{AsapReply, AlapReply, MobilityReply, ListReply, AdvanceReply, CheckReply, PeakReply, FirstReply, NextReply};
 
 use crate::cursor::Cursor;
@@ -12,6 +14,7 @@ use model::graph::Graph;
 
 // Earliest starts.
 pub fn asap(graph: &Graph<'_>, rest: Cursor<'_>, out: &mut [u16]) -> Result<Reply, Fault>
+    requires { longest ≤ length out.old }
     ensures { AsapReply (graph_in graph.now) rest.entry.bytes.now rest.entry.at result out.new }
 {
     let row = rest.last_words(out)?;
@@ -34,6 +37,7 @@ pub fn alap(
     rest: Cursor<'_>,
     out: &mut [u16],
 ) -> Result<Reply, Fault>
+    requires { longest ≤ length out.old }
     ensures { AlapReply (graph_in graph.now) bound rest.entry.bytes.now rest.entry.at result out.new }
 {
     let row = rest.last_words(out)?;
@@ -57,6 +61,7 @@ pub fn mobility(
     rest: Cursor<'_>,
     out: &mut [u16],
 ) -> Result<Reply, Fault>
+    requires { longest ≤ length out.old }
     ensures { MobilityReply (graph_in graph.now) bound rest.entry.bytes.now rest.entry.at result out.new }
 {
     let row = rest.last_words(out)?;
@@ -75,6 +80,7 @@ pub fn mobility(
 
 // The list schedule.
 pub fn list(graph: &Graph<'_>, mut rest: Cursor<'_>, out: &mut [u16]) -> Result<Reply, Fault>
+    requires { longest ≤ length out.old }
     ensures { ListReply (graph_in graph.now) rest.entry.bytes.now rest.entry.at result out.new }
 {
     let units = rest.bytes()?;
@@ -99,6 +105,7 @@ pub fn advance(
     mut rest: Cursor<'_>,
     out: &mut [u16],
 ) -> Result<Reply, Fault>
+    requires { longest ≤ length out.old }
     ensures { AdvanceReply (graph_in graph.now) step rest.entry.bytes.now rest.entry.at result out.new }
 {
     let units = rest.bytes()?;
@@ -178,6 +185,7 @@ pub fn first(
     mut rest: Cursor<'_>,
     out: &mut [u16],
 ) -> Result<Reply, Fault>
+    requires { longest ≤ length out.old }
     ensures { FirstReply (graph_in graph.now) bound rest.entry.bytes.now rest.entry.at result out.new }
 {
     let units = rest.bytes()?;
@@ -203,6 +211,7 @@ pub fn next(
     mut rest: Cursor<'_>,
     out: &mut [u16],
 ) -> Result<Reply, Fault>
+    requires { longest ≤ length out.old }
     ensures { NextReply (graph_in graph.now) bound rest.entry.bytes.now rest.entry.at result out.new }
 {
     let units = rest.bytes()?;

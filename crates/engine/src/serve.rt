@@ -1,5 +1,7 @@
 // One question after another, from standard input to standard output.
 ghost use Rattle.std.specs.Prelude.{◌≡◌, ◌+◌, ◌*◌, ◌≤◌, length, IfOk, IfSome};
+ghost use Rattle.engine.specs.Frame.{longest, four};
+ghost use Rattle.engine.specs.Laid.{Within};
 ghost use Rattle.engine.specs.Serving.{most, Lies};
 
 use crate::bytes::{lay_eight, lay_four, lay_words, read_four};
@@ -38,10 +40,10 @@ fn say_fault(output: Stdout, fault: Fault) -> ControlFlow<()> {
     write_all(output, &said)
 }
 
-// Writes the numbers of an answer, eight bytes each, from a place on.
+// Writes the numbers of an answer, eight bytes each, from a place on: the other bytes stay.
 fn lay_numbers(numbers: &[usize], bytes: &mut [u8], at: usize)
     requires { at + 8 * length numbers.now ≤ length bytes.old }
-    ensures { length bytes.new ≡ length bytes.old }
+    ensures { Within bytes.old at (8 * length numbers.now) bytes.new }
 {
     for (i, number) in numbers.iter().enumerate() {
         lay_eight(*number, bytes, at + 8 * i);
@@ -75,10 +77,13 @@ impl Engine {
         Ok(Some(Head { number, size }))
     }
 
-    // Lays kind, size and numbers right before the question's bytes, and the written row over them. Where the answer begins.
-    fn lay_reply(&mut self, reply: Reply, out: &[u16; LONGEST], size: usize) -> usize
-        requires { (size ≤ most) × IfSome reply.row (Lies size) }
-        ensures { result ≤ 48 }
+    // Lays kind, size and numbers right before the question's bytes, and the written row over them. Where the answer begins, with the kind
+    // of a question that was asked.
+    fn lay_reply(&mut self, reply: Reply, out: &[u16], size: usize) -> usize
+        requires room { longest ≤ length out.now }
+        requires fits { (size ≤ most) × IfSome reply.row (Lies size) }
+        ensures begin { result ≤ 48 }
+        ensures kind { four self.new.frame result ≡ 0 }
     {
         if let Some(row) = reply.row {
             lay_words(&out[..row.len], &mut self.frame, HEAD + row.at);
@@ -91,23 +96,26 @@ impl Engine {
         begin
     }
 
-    // Answers a question: its numbers, and its bytes with the row written.
-    fn answer(&mut self, head: Head) -> ControlFlow<()> {
+    // Answers a question: its numbers, and its bytes with the row written, which is left in `out`.
+    fn answer(&mut self, head: Head, out: &mut [u16]) -> ControlFlow<()>
+        requires { longest ≤ length out.old }
+    {
         let end = HEAD + head.size;
-        let mut out = [0; LONGEST];
-        match ask(head.number, &self.frame[HEAD..end], &mut out) {
+        match ask(head.number, &self.frame[HEAD..end], out) {
             Ok(reply) => {
-                let begin = self.lay_reply(reply, &out, head.size);
+                let begin = self.lay_reply(reply, out, head.size);
                 write_all(self.output, &self.frame[begin..end])
             }
             Err(fault) => say_fault(self.output, fault),
         }
     }
 
-    // Reads one question and answers it. Whether to go on.
-    fn serve_one(&mut self) -> ControlFlow<()> {
+    // Reads one question and answers it, by a row that is lent for the written one. Whether to go on.
+    fn serve_one(&mut self, out: &mut [u16]) -> ControlFlow<()>
+        requires { longest ≤ length out.old }
+    {
         match self.read_question() {
-            Ok(Some(head)) => self.answer(head),
+            Ok(Some(head)) => self.answer(head, out),
             Ok(None) => ControlFlow::Break(()),
             Err(Fault::CutOff) => {
                 say_fault(self.output, Fault::CutOff)?;
@@ -119,15 +127,16 @@ impl Engine {
 }
 
 // Answers questions until the input ends, a question is cut off, or nobody reads the answers. The loop has an end that no run reaches, since
-// a loop with none would need a handle that the repository does not take.
+// a loop with none would need a handle that the repository does not take. One row serves all questions: it is filled with zeros once.
 pub fn serve(input: Stdin, output: Stdout) {
     let mut engine = Engine {
         input,
         output,
         frame: [0; FRAME],
     };
+    let mut out = [0; LONGEST];
     for _ in 0..u64::MAX {
-        if engine.serve_one().is_break() {
+        if engine.serve_one(&mut out).is_break() {
             return;
         }
     }
