@@ -16,4 +16,3 @@ pub mod Rule
 pub mod Scheduling
 pub mod Listing
 pub mod Lent
-pub mod OneAnswer

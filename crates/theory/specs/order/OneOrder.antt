@@ -1,4 +1,4 @@
--- One answer: any two orders, and any two works, that a contract of this crate allows are equal, in their entries and in where these lie.
+-- One answer: any two orders, and any two works, that a contract of `model` allows are equal, in their entries and in where these lie.
 use Rattle.std.specs.Prelude.{◌≡◌, List, ℕ, length}
 use Rattle.std.specs.Borrow.{Bor}
 use Rattle.std.proofs.Common.{sym, ◌∙◌}
