@@ -40,7 +40,7 @@ fn say_fault(output: Stdout, fault: Fault) -> ControlFlow<()> {
     write_all(output, &said)
 }
 
-// Writes the numbers of an answer, eight bytes each, from a place on: the other bytes stay.
+// Writes the numbers of an answer, eight bytes each, from a place on. The other bytes stay.
 fn lay_numbers(numbers: &[usize], bytes: &mut [u8], at: usize)
     requires { at + 8 * length numbers.now ≤ length bytes.old }
     ensures { Within bytes.old at (8 * length numbers.now) bytes.new }
@@ -77,8 +77,8 @@ impl Engine {
         Ok(Some(Head { number, size }))
     }
 
-    // Lays kind, size and numbers right before the question's bytes, and the written row over them. Where the answer begins, with the kind
-    // of a question that was asked.
+    // Lays kind, size and numbers right before the question's bytes, and the written row over them. Where the answer begins: the four bytes
+    // there are the kind of a question that was asked.
     fn lay_reply(&mut self, reply: Reply, out: &[u16], size: usize) -> usize
         requires room { longest ≤ length out.now }
         requires fits { (size ≤ most) × IfSome reply.row (Lies size) }
@@ -96,7 +96,7 @@ impl Engine {
         begin
     }
 
-    // Answers a question: its numbers, and its bytes with the row written, which is left in `out`.
+    // Answers a question: its numbers, and its bytes with the row written, by way of `out`.
     fn answer(&mut self, head: Head, out: &mut [u16]) -> ControlFlow<()>
         requires { longest ≤ length out.old }
     {
@@ -110,7 +110,7 @@ impl Engine {
         }
     }
 
-    // Reads one question and answers it, by a row that is lent for the written one. Whether to go on.
+    // Reads one question and answers it; `out` has room for the row that it writes. Whether to go on.
     fn serve_one(&mut self, out: &mut [u16]) -> ControlFlow<()>
         requires { longest ≤ length out.old }
     {
