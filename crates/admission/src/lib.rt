@@ -40,6 +40,8 @@ pub fn graph_with_units(graph: &Graph, units: &[u8], matched: bool) -> Result<()
 }
 
 // With an output row: refusals 1 to 5 and 7, or the earliest starts. A cycle is shown in `out`; any other refusal leaves it, and so does a pass.
+// Inlined, as the next is: a call would copy the row of starts once more, and on a refusal too.
+#[inline(always)]
 pub fn placed(graph: &Graph, matched: bool, out: &mut [u16]) -> Result<[u16; OPERATIONS], Refusal>
     ensures { Admitted (order (graph_in graph.now)) (placed_checks (graph_in graph.now) (matched ≡ false) (length out.old)) out.old result out.new }
 {
@@ -48,6 +50,7 @@ pub fn placed(graph: &Graph, matched: bool, out: &mut [u16]) -> Result<[u16; OPE
 }
 
 // With an output row and units: refusals 1 to 7, or the earliest starts.
+#[inline(always)]
 pub fn placed_with_units(
     graph: &Graph,
     units: &[u8],

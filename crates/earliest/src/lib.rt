@@ -95,12 +95,14 @@ fn rises(from: &[u16], to: &[u16]) -> bool {
 
 // Rounds up and down until all are placed or one places none: what is left has start 0, as `Placing` and
 // the C interface's rows say, and waits for another that is left. How many are placed: `Placing` speaks
-// of the row and the number. No `for`: the rounds end where one places none.
+// of the row and the number. No `for`: the rounds end where one places none. The way is chosen before the
+// edges are linked, since the compiler else copies the row of links.
 pub fn earliest(weights: &[u16], from: &[u16], to: &[u16], starts: &mut [u32; OPERATIONS]) -> usize
     requires { Closed heaviest (ordered weights.now from.now to.now) }
     ensures { Placing (ordered weights.now from.now to.now) starts.new result }
 {
     *starts = [0u32; OPERATIONS];
+    let mut up = rises(from, to);
     let links = edge_links::link(to);
     let order = LinkedOrder {
         weights,
@@ -108,7 +110,6 @@ pub fn earliest(weights: &[u16], from: &[u16], to: &[u16], starts: &mut [u32; OP
         to,
         links: &links,
     };
-    let mut up = rises(from, to);
     let mut total = 0;
     loop {
         let placed = order.round(up, starts);
