@@ -11,7 +11,7 @@ ghost use Rattle.model.specs.Limits as limit;
 ghost use Rattle.model.specs.Lent.{graph_in};
 ghost use Rattle.model.specs.Listing.{ListerAnswer};
 ghost use Rattle.model.specs.Refusals.{product};
-ghost use Rattle.lister.specs.Search.{spans, Reaches};
+ghost use Rattle.lister.specs.Search.{spans, Windows, Reaches};
 ghost use Rattle.lister.specs.Lent.{job_in, asked_of};
 ghost use Rattle.lister.specs.Asking.{Sought};
 
@@ -28,13 +28,14 @@ fn rows_match(graph: &Graph, units: &[u8], after: Option<&[u16]>) -> bool
     units.len() == graph.kinds && after.is_none_or(|row| row.len() == graph.delays.len())
 }
 
-// Whether the product of (mobility + 1) exceeds the limit. It stops at the first product above it, so nothing wraps, and no later factor is below 1.
-fn too_many(job: &Job) -> bool
-    ensures { Tells result (limit.windows < product (spans job.now.early job.now.late (length job.now.work.delays.now)) (length job.now.work.delays.now)) }
+// Whether the product of (mobility + 1) of n operations exceeds the limit. It stops at the first product above it, so nothing wraps, and no later
+// factor is below 1.
+fn too_many(early: &[u16; OPERATIONS], late: &[u16; OPERATIONS], n: usize) -> bool
+    requires { (n ≤ limit.operations) × Windows early.now late.now n }
+    ensures { Tells result (limit.windows < product (spans early.now late.now n) n) }
 {
-    let n = job.work.delays.len();
     let mut windows: usize = 1;
-    for (first, last) in job.early[..n].iter().zip(&job.late[..n]) {
+    for (first, last) in early[..n].iter().zip(&late[..n]) {
         windows *= usize::from(*last - *first) + 1;
         if WINDOWS < windows {
             return true;
@@ -71,6 +72,9 @@ fn ask(
     let matched = rows_match(graph, units, after);
     let early = admission::placed_with_units_within(graph, units, matched, bound, out)?;
     let late = tables::latest(&graph.order(), bound);
+    if too_many(&early, &late, graph.delays.len()) {
+        return Err(Refusal::TooManyWindows);
+    }
     let work = graph.work(units);
     let job = Job {
         work,
@@ -78,9 +82,6 @@ fn ask(
         early,
         late,
     };
-    if too_many(&job) {
-        return Err(Refusal::TooManyWindows);
-    }
     Ok(seek(&job, after, out))
 }
 

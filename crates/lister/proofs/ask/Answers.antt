@@ -25,6 +25,18 @@ latest-late-requires c =
       room_within = rw c.order.ensures.order (ask_within c.args.graph.now _ c.args.bound _ m c.in_ok-early.ensures);
     }
 
+pub too_many-requires : goal.too_many-requires
+too_many-requires c =
+    let m = matched_as (graph_in c.args.graph.now) c.args.units.now c.args.after c.rows_match-matched.ensures in (
+      (ask_sound c.args.graph.now _ c.args.bound _ m c.in_ok-early.ensures).few,
+      ask_windows c.args.graph.now _ c.args.bound _ m c.in_ok-early.ensures (rw c.order.ensures.order at c.latest-late.ensures),
+    )
+
+pub returns-then-too_many : goal.returns-then-too_many
+returns-then-too_many c =
+    let m = matched_as (graph_in c.args.graph.now) c.args.units.now c.args.after c.rows_match-matched.ensures in
+    ask_many c.args.graph.now _ c.args.bound _ m c.in_ok-early.ensures (rw c.order.ensures.order at c.latest-late.ensures) (c.too_many.ensures.yes c.if-too_many.true)
+
 pub work-work-requires : goal.work-work-requires
 work-work-requires c =
     let m = matched_as (graph_in c.args.graph.now) c.args.units.now c.args.after c.rows_match-matched.ensures in
@@ -41,11 +53,6 @@ invariant_of-job c =
       windows = rw (ap many c.work-work.ensures.graph) (ask_windows c.args.graph.now _ c.args.bound _ m c.in_ok-early.ensures (rw c.order.ensures.order at c.latest-late.ensures));
     }
 
-pub returns-then-too_many : goal.returns-then-too_many
-returns-then-too_many c =
-    let m = matched_as (graph_in c.args.graph.now) c.args.units.now c.args.after c.rows_match-matched.ensures in
-    ask_many c.args.graph.now _ c.args.bound _ m c.in_ok-early.ensures (rw c.order.ensures.order at c.latest-late.ensures) (rw (ap many c.work-work.ensures.graph) at (c.too_many.ensures.yes c.if-too_many.true))
-
 pub seek-requires : goal.seek-requires
 seek-requires c =
     let m = matched_as (graph_in c.args.graph.now) c.args.units.now c.args.after c.rows_match-matched.ensures in
@@ -57,4 +64,4 @@ seek-requires c =
 pub returns : goal.returns
 returns c =
     let m = matched_as (graph_in c.args.graph.now) c.args.units.now c.args.after c.rows_match-matched.ensures in
-    ask_sought c.args.graph.now _ c.args.bound _ m c.in_ok-early.ensures (rw c.order.ensures.order at c.latest-late.ensures) (rw (ap many c.work-work.ensures.graph) at (c.too_many.ensures.none c.if-too_many.false)) (rw (c.work-work.ensures.graph, c.work-work.ensures.units) at c.seek.ensures)
+    ask_sought c.args.graph.now _ c.args.bound _ m c.in_ok-early.ensures (rw c.order.ensures.order at c.latest-late.ensures) (c.too_many.ensures.none c.if-too_many.false) (rw (c.work-work.ensures.graph, c.work-work.ensures.units) at c.seek.ensures)

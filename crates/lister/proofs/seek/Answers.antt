@@ -1,11 +1,11 @@
 -- The search answers for every row, and what it found is written.
-use Rattle.std.proofs.Common.{arith}
+use Rattle.std.proofs.Common.{rules, arith}
 use Rattle.lister.proofs.Whole.{sought_found, sought_none}
 use Rattle.lister.proofs.seek.Goals as goal
 
 pub returns-then-found : goal.returns-then-found
 returns-then-found c =
-    sought_found c.args.job.now.work.sound c.place-found.ensures c.if-found.true (omega (arith, c.args.job.now.work.sound.few)) c.fill.ensures
+    sought_found c.args.job.now.work.sound c.place-found.ensures (search rules) (omega (arith, c.args.job.now.work.sound.few)) c.fill.ensures
 
 pub returns : goal.returns
 returns c = sought_none c.args.job.now.work.sound c.place-found.ensures c.if-found.false

@@ -4,4 +4,4 @@ use Rattle.lister.proofs.Product.{Multiplied}
 use Rattle.lister.proofs.too_many.Given as goal
 
 abbrev pub invariant-loop-first : goal.invariant-loop-first
-invariant-loop-first l = Multiplied l.job.early l.job.late l.n l.windows (length l.yielded)
+invariant-loop-first l = Multiplied l.early l.late l.n l.windows (length l.yielded)
