@@ -12,12 +12,13 @@ ghost use Rattle.model.specs.Lent.{graph_in};
 ghost use Rattle.model.specs.Listing.{ListerAnswer};
 ghost use Rattle.model.specs.Refusals.{product};
 ghost use Rattle.lister.specs.Search.{spans, Windows, Reaches};
-ghost use Rattle.lister.specs.Lent.{job_in, asked_of};
+ghost use Rattle.lister.specs.Lent.{job_of, asked_of};
 ghost use Rattle.lister.specs.Asking.{Sought};
 
 use crate::job::Job;
 use model::graph::Graph;
 use model::limits::{OPERATIONS, WINDOWS};
+use model::work::Work;
 use model::{Listed, Refusal};
 
 // Whether the rows that only the lister takes have the length that they must have: a unit count for each type, and an entry for each
@@ -44,16 +45,30 @@ fn too_many(early: &[u16; OPERATIONS], late: &[u16; OPERATIONS], n: usize) -> bo
     false
 }
 
-// The least schedule into `out`, or none left. The search works in a row of its own, so the output is written only once it has succeeded.
-fn seek(job: &Job, after: Option<&[u16]>, out: &mut [u16]) -> Listed
-    requires reaches { Reaches (asked_of after) (length job.now.work.delays.now) }
-    requires room { length job.now.work.delays.now ≤ length out.old }
-    ensures { Sought (job_in job.now) (asked_of after.entry) out.old result out.new }
+// The least schedule into `out`, or none left, for operations with such windows. The search works in a row of its own, so the output is written only
+// once it has succeeded. Its job is built here, so a question that is refused pays for none.
+fn seek(
+    work: &Work,
+    early: &[u16; OPERATIONS],
+    late: &[u16; OPERATIONS],
+    after: Option<&[u16]>,
+    out: &mut [u16],
+) -> Listed
+    requires windows { Windows early.now late.now (length work.now.delays.now) }
+    requires reaches { Reaches (asked_of after) (length work.now.delays.now) }
+    requires room { length work.now.delays.now ≤ length out.old }
+    ensures { Sought (job_of work.now early.now late.now) (asked_of after.entry) out.old result out.new }
 {
+    let job = Job {
+        work: *work,
+        links: placement::higher_links(work.from, work.to),
+        early: *early,
+        late: *late,
+    };
     let mut row = [0u16; OPERATIONS];
     let found = job.place(&mut row, 0, after);
     if found {
-        admission::rows::fill(&row, job.work.delays.len(), out);
+        admission::rows::fill(&row, work.delays.len(), out);
         return Listed::Found;
     }
     Listed::NoneLeft
@@ -76,13 +91,7 @@ fn ask(
         return Err(Refusal::TooManyWindows);
     }
     let work = graph.work(units);
-    let job = Job {
-        work,
-        links: placement::higher_links(work.from, work.to),
-        early,
-        late,
-    };
-    Ok(seek(&job, after, out))
+    Ok(seek(&work, &early, &late, after, out))
 }
 
 // The least lawful schedule into the first entries of `out`; or none left, or a refusal.

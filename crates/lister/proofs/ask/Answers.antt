@@ -45,18 +45,11 @@ work-work-requires c =
       units_len = ask_counts c.args.graph.now _ c.args.bound _ m c.in_ok-early.ensures;
     }
 
-pub invariant_of-job : goal.invariant_of-job
-invariant_of-job c =
-    let m = matched_as (graph_in c.args.graph.now) c.args.units.now c.args.after c.rows_match-matched.ensures in
-    record {
-      linked = c.higher_links.ensures;
-      windows = rw (ap many c.work-work.ensures.graph) (ask_windows c.args.graph.now _ c.args.bound _ m c.in_ok-early.ensures (rw c.order.ensures.order at c.latest-late.ensures));
-    }
-
 pub seek-requires : goal.seek-requires
 seek-requires c =
     let m = matched_as (graph_in c.args.graph.now) c.args.units.now c.args.after c.rows_match-matched.ensures in
     record {
+      windows = rw (ap many c.work-work.ensures.graph) (ask_windows c.args.graph.now _ c.args.bound _ m c.in_ok-early.ensures (rw c.order.ensures.order at c.latest-late.ensures));
       reaches = rw (ap many c.work-work.ensures.graph) (ask_reaches c.args.graph.now _ c.args.bound _ m c.in_ok-early.ensures);
       room = rw (ap many c.work-work.ensures.graph) (ask_room c.args.graph.now _ c.args.bound _ m c.in_ok-early.ensures);
     }

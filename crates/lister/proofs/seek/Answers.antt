@@ -5,7 +5,7 @@ use Rattle.lister.proofs.seek.Goals as goal
 
 pub returns-then-found : goal.returns-then-found
 returns-then-found c =
-    sought_found c.args.job.now.work.sound c.place-found.ensures (search rules) (omega (arith, c.args.job.now.work.sound.few)) c.fill.ensures
+    sought_found c.args.work.now.sound c.place-found.ensures (search rules) (omega (arith, c.args.work.now.sound.few)) c.fill.ensures
 
 pub returns : goal.returns
-returns c = sought_none c.args.job.now.work.sound c.place-found.ensures c.if-found.false
+returns c = sought_none c.args.work.now.sound c.place-found.ensures c.if-found.false
