@@ -30,8 +30,8 @@ pub order_one : (g : graph.Graph) (a b : order.Order) → OrderRows g a → Orde
 order_one g a b x y = same_order a b (x.weights ∙ sym y.weights) (x.from ∙ sym y.from) (x.to ∙ sym y.to)
 
 -- of `Order::turned`
-pub turned_one : (o a b : order.Order) → TurnedRows o a → TurnedRows o b → a ≡ b
-turned_one o a b x y = same_order a b (x.weights ∙ sym y.weights) (x.from ∙ sym y.from) (x.to ∙ sym y.to)
+pub order_turned_one : (o a b : order.Order) → TurnedRows o a → TurnedRows o b → a ≡ b
+order_turned_one o a b x y = same_order a b (x.weights ∙ sym y.weights) (x.from ∙ sym y.from) (x.to ∙ sym y.to)
 
 -- the same of a work, whose graph and busy times are sound
 sound_prop : (d b k u f t : List ℕ) → IsProp (Sound (graph_of d b k (length u) f t))
