@@ -6,7 +6,7 @@ use Rattle.model.specs.Order.{Order, size}
 use Rattle.model.specs.Graph.{Graph, order, many, type_of}
 use Rattle.model.specs.Tables.{Earliest}
 use Rattle.model.specs.Refusals.{Check, shape, output, unitless, cyclic, large_bound, late_bound}
-use Rattle.model.specs.Answers.{Answered, refusal_of}
+use Rattle.model.specs.Answers.{Answered, refusal_of, Done}
 use Rattle.model.specs.declared.Refusal.{Refusal}
 
 -- ---- the sets of refusals; `Own` says that the rows that only the question takes do not match
@@ -54,6 +54,11 @@ Started o (Err why) = Unit {0}
 pub record Admitted (o : Order) (checks : List Check) (before : List ℕ) (b : Result (List ℕ) Refusal) (after : List ℕ) : Type 0 where
   pub answered : Answered checks before (λ a. a ≡ before) (refusal_of b) after
   pub started : Started o b
+
+-- an answer with no starts, and the starts that lie beside it
+abbrev pub with_starts : List ℕ → Done → Result (List ℕ) Refusal
+with_starts s (Ok done) = Ok s
+with_starts s (Err why) = Err why
 
 -- an operation is of type k
 pub record Used (g : Graph) (k : ℕ) : Type 0 where

@@ -46,7 +46,9 @@ pub fn placed(graph: &Graph, matched: bool, out: &mut [u16]) -> Result<[u16; OPE
     ensures { Admitted (order (graph_in graph.now)) (placed_checks (graph_in graph.now) (matched ≡ false) (length out.old)) out.old result out.new }
 {
     shape::front(graph, matched, out.len())?;
-    precedence::place(&graph.order(), out)
+    let mut starts = [0u16; OPERATIONS];
+    precedence::place(&graph.order(), &mut starts, out)?;
+    Ok(starts)
 }
 
 // With an output row and units: refusals 1 to 7, or the earliest starts.
@@ -61,7 +63,9 @@ pub fn placed_with_units(
     ensures { Admitted (order (graph_in graph.now)) (placed_unit_checks (graph_in graph.now) (matched ≡ false) (length out.old) units.now) out.old result out.new }
 {
     shape::front_unit_fault(graph, units, matched, out.len())?;
-    precedence::place(&graph.order(), out)
+    let mut starts = [0u16; OPERATIONS];
+    precedence::place(&graph.order(), &mut starts, out)?;
+    Ok(starts)
 }
 
 // With an output row and a bound: refusals 1 to 5 and 7 to 9, or the earliest starts.

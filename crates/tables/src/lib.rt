@@ -28,13 +28,17 @@ pub fn latest(order: &Order, bound: usize) -> [u16; OPERATIONS]
     starts
 }
 
-// The ASAP starts.
+// The ASAP starts. They are read where they lie, since `?` would copy them.
 pub fn asap(graph: &Graph, out: &mut [u16]) -> Result<(), Refusal>
     ensures { AsapAnswer (graph_in graph.now) out.old result out.new }
 {
-    let starts = admission::placed(graph, true, out)?;
-    admission::rows::fill(&starts, graph.delays.len(), out);
-    Ok(())
+    match &admission::placed(graph, true, out) {
+        Ok(starts) => {
+            admission::rows::fill(starts, graph.delays.len(), out);
+            Ok(())
+        }
+        Err(why) => Err(*why),
+    }
 }
 
 // The ALAP starts within a bound.

@@ -18,5 +18,9 @@ order-requires c = closed _ (passed_sound _ _ _ c.in_ok-front.ensures)
 pub place-requires : goal.place-requires
 place-requires c = record { room = omega (arith, passed_room _ _ _ _ c.in_ok-front.ensures, ap size c.order.ensures.order) }
 
+pub returns-in_err-place : goal.returns-in_err-place
+returns-in_err-place c =
+    let given = err_from_is_err_and c.from_residual-in_err-place.result c.from_residual-in_err-place.ensures.1 in rw (given.1, given.2) (admitted_passed _ (cyclic _) c.in_ok-front.ensures (rw c.order.ensures.order at c.in_err-place.ensures))
+
 pub returns : goal.returns
-returns c = admitted_passed _ (cyclic _) c.in_ok-front.ensures (rw c.order.ensures.order at c.place.ensures)
+returns c = admitted_passed _ (cyclic _) c.in_ok-front.ensures (rw c.order.ensures.order at c.in_ok-place.ensures)
