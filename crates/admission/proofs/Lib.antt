@@ -2,3 +2,4 @@
 mod Bounded
 mod Manned
 mod Trying
+mod Unitless

@@ -1,9 +1,9 @@
 -- What admission leaves: the first refusal that applies, or sound rows and the earliest starts. One record for every set of refusals.
-use Rattle.std.specs.Prelude.{◌≡◌, Bool, false, List, ◌++◌, ℕ, ◌≤◌, ◌<◌, length, Result, Ok, Err}
+use Rattle.std.specs.Prelude.{◌≡◌, Bool, false, List, ◌++◌, ℕ, ◌≤◌, length, Result, Ok, Err}
 use Rattle.maths.specs.Rows.{at}
 use Rattle.model.specs.Limits as limit
 use Rattle.model.specs.Order.{Order, size}
-use Rattle.model.specs.Graph.{Graph, order, many, type_of}
+use Rattle.model.specs.Graph.{Graph, order}
 use Rattle.model.specs.Tables.{Earliest}
 use Rattle.model.specs.Refusals.{Check, shape, output, unitless, cyclic, large_bound, late_bound}
 use Rattle.model.specs.Answers.{Answered, refusal_of, Done}
@@ -59,12 +59,6 @@ pub record Admitted (o : Order) (checks : List Check) (before : List ℕ) (b : R
 abbrev pub with_starts : List ℕ → Done → Result (List ℕ) Refusal
 with_starts s (Ok done) = Ok s
 with_starts s (Err why) = Err why
-
--- an operation is of type k
-pub record Used (g : Graph) (k : ℕ) : Type 0 where
-  pub user : ℕ
-  pub inside : user < many g
-  pub uses : type_of g user ≡ k
 
 -- `matched` tells whether the rows that only the question takes match; `Own` says that they do not
 pub record Matches (matched : Bool) (Own : Type 0) : Type 0 where

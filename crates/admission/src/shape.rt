@@ -6,7 +6,6 @@ ghost use Rattle.model.specs.Graph.{Sound, many, edges_of};
 ghost use Rattle.model.specs.Lent.{graph_in};
 ghost use Rattle.model.specs.Refusals.{First, Large, Uneven, BadOperation, BadEdge, NoUnit, shape, output, unitless};
 ghost use Rattle.model.specs.Answers.{refusal_of};
-ghost use Rattle.admission.specs.Admitted.{Used};
 
 use model::Refusal;
 use model::graph::Graph;
@@ -83,26 +82,20 @@ pub fn front(graph: &Graph, matched: bool, room: usize) -> Result<(), Refusal>
     Ok(())
 }
 
-// Whether an operation is of this type.
-fn is_used(graph: &Graph, kind: usize) -> bool
-    requires { length graph.now.delays.now ≡ length graph.now.types.now }
-    ensures { Tells result (Used (graph_in graph.now) kind) }
-{
-    graph.types.iter().any(|own| *own as usize == kind)
-}
-
-// The lowest type in use that has no unit, where there is one.
+// The lowest type in use that has no unit, where there is one: one pass over the operations keeps the lowest so far.
 fn unitless_kind(graph: &Graph, units: &[u8]) -> Option<usize>
-    requires even { length graph.now.delays.now ≡ length graph.now.types.now }
+    requires sound { Sound (graph_in graph.now) }
     requires units_len { length units.now ≡ graph.now.kinds }
     ensures { LowestIf (NoUnit (graph_in graph.now) units.now) graph.now.kinds result }
 {
-    for (kind, count) in units.iter().enumerate() {
-        if *count == 0 && is_used(graph, kind) {
-            return Some(kind);
+    let mut lowest: Option<usize> = None;
+    for own in graph.types {
+        let kind = *own as usize;
+        if units[kind] == 0 && kind < lowest.unwrap_or(graph.kinds) {
+            lowest = Some(kind);
         }
     }
-    None
+    lowest
 }
 
 // Refusal 6, of a sound graph: the lowest type in use that has no unit is refused.

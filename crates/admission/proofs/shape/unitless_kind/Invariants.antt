@@ -1,8 +1,7 @@
--- `unitless_kind` answers the lowest type in use that has no unit: none of those passed is one.
-use Rattle.maths.specs.Lowest.{None}
-use Rattle.model.specs.Lent.{graph_in}
-use Rattle.model.specs.Refusals.{NoUnit}
+-- `unitless_kind` answers the lowest type in use that has no unit: it is the lowest over the operations passed.
+use Rattle.maths.specs.Search.{LowestIf}
+use Rattle.admission.proofs.Unitless.{User}
 use Rattle.admission.proofs.shape.unitless_kind.Given as goal
 
-abbrev pub invariant-loop-kind : goal.invariant-loop-kind
-invariant-loop-kind l = None (NoUnit (graph_in l.graph) l.units) l.kind
+abbrev pub invariant-loop-own : goal.invariant-loop-own
+invariant-loop-own l = LowestIf (User l.graph.types.now l.units l.own-index) l.graph.kinds l.lowest
