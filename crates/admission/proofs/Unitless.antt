@@ -1,9 +1,9 @@
 -- The lowest type in use that has no unit, over the operations passed.
-use Rattle.std.specs.Prelude.{◌≡◌, refl, ◌⊎◌, List, ℕ, ◌+◌, ◌≤◌, ◌<◌, length, Option, None as Nothing, Some, unwrap_or}
+use Rattle.std.specs.Prelude.{◌≡◌, refl, ◌⊎◌, List, ℕ, ◌+◌, ◌≤◌, ◌<◌, length, Option, None as Nothing, Some}
 use Rattle.std.proofs.Common.{sym, ◌∙◌, ap, inl, inr, ⊎_elim, arith}
 use Rattle.maths.specs.Cases.{lt_or_le}
 use Rattle.maths.specs.Rows.{at}
-use Rattle.maths.specs.Lowest.{None, Lowest}
+use Rattle.maths.specs.Lowest.{None}
 use Rattle.maths.specs.Search.{LowestIf}
 use Rattle.model.specs.Graph.{lent}
 use Rattle.model.specs.Refusals.{NoUnit}
@@ -31,29 +31,39 @@ module _ {types units : List ℕ} where
   none_more : {i n : ℕ} → None (User types units i) n → (at units (at types i) ≡ 0 → n ≤ at types i) → None (User types units (i + 1)) n
   none_more h above k l u = ⊎_elim (h k l) (λ p. absurd (omega (arith, p.0, above p.1))) (user_more u)
 
+-- `lowest` is the lowest such type of the first i operations, or the number of types
+pub record SoFar (types units : List ℕ) (kinds lowest i : ℕ) : Type 0 where
+  pub within : lowest ≤ kinds
+  pub found : lowest < kinds → User types units i lowest
+  pub none_before : None (User types units i) lowest
+
 -- the operation's type becomes the lowest, where it has no unit and is below what was found
-pub lowest_own : (types units : List ℕ) (i kinds : ℕ) (r : Option ℕ) → LowestIf (User types units i) kinds r → at types i < kinds → at units (at types i) ≡ 0
-    → at types i < unwrap_or r kinds
-    → Lowest (User types units (i + 1)) kinds (at types i)
-lowest_own types units i kinds r h l z b = record {
-  inside = l;
-  holds = record { operation = i; inside = omega arith; uses = refl; none = z };
-  none_before = none_more (below r h b) (λ e. omega arith);
+pub so_far_own : {types units : List ℕ} {kinds lowest i : ℕ} → SoFar types units kinds lowest i → at units (at types i) ≡ 0
+    → at types i < lowest
+    → SoFar types units kinds (at types i) (i + 1)
+so_far_own {types} {units} {kinds} {lowest} {i} h z b = record {
+  within = omega (arith, h.within);
+  found = λ l. record { operation = i; inside = omega arith; uses = refl; none = z };
+  none_before = none_more (λ k l. h.none_before k (omega arith)) (λ e. omega arith);
 }
-  where
-    below : (r : Option ℕ) → LowestIf (User types units i) kinds r → at types i < unwrap_or r kinds → None (User types units i) (at types i)
-    below Nothing h b = λ k m. h k (omega arith)
-    below (Some r) h b = λ k m. h.none_before k (omega arith)
 
 -- what was found stays, where the operation's type has a unit or is not below it
-pub lowest_kept : (types units : List ℕ) (i kinds : ℕ) (r : Option ℕ) → LowestIf (User types units i) kinds r → (at units (at types i) ≡ 0 → unwrap_or r kinds ≤ at types i)
-    → LowestIf (User types units (i + 1)) kinds r
-lowest_kept types units i kinds Nothing h above = none_more h above
-lowest_kept types units i kinds (Some r) h above = record {
-  inside = h.inside;
-  holds = record { operation = h.holds.operation; inside = omega (arith, h.holds.inside); uses = h.holds.uses; none = h.holds.none };
+pub so_far_kept : {types units : List ℕ} {kinds lowest i : ℕ} → SoFar types units kinds lowest i
+    → (at units (at types i) ≡ 0 → lowest ≤ at types i)
+    → SoFar types units kinds lowest (i + 1)
+so_far_kept h above = record {
+  within = h.within;
+  found = λ l. let u = h.found l in record { operation = u.operation; inside = omega (arith, u.inside); uses = u.uses; none = u.none };
   none_before = none_more h.none_before above;
 }
+
+-- what was found, where there is one
+pub so_far_some : {types units : List ℕ} {kinds lowest i : ℕ} → SoFar types units kinds lowest i → lowest < kinds → LowestIf (User types units i) kinds (Some lowest)
+so_far_some h l = record { inside = l; holds = h.found l; none_before = h.none_before }
+
+-- none was found
+pub so_far_nothing : {types units : List ℕ} {kinds lowest i : ℕ} → SoFar types units kinds lowest i → kinds ≤ lowest → LowestIf (User types units i) kinds Nothing
+so_far_nothing h l = λ k m. h.none_before k (omega arith)
 
 -- all operations are passed: what was found is the lowest type in use that has no unit
 pub lowest_end : (delays types units from to : List ℕ) (kinds : ℕ) (r : Option ℕ) → LowestIf (User types units (length delays)) kinds r

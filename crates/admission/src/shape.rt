@@ -88,14 +88,17 @@ fn unitless_kind(graph: &Graph, units: &[u8]) -> Option<usize>
     requires units_len { length units.now ≡ graph.now.kinds }
     ensures { LowestIf (NoUnit (graph_in graph.now) units.now) graph.now.kinds result }
 {
-    let mut lowest: Option<usize> = None;
+    let mut lowest = graph.kinds;
     for own in graph.types {
         let kind = *own as usize;
-        if units[kind] == 0 && kind < lowest.unwrap_or(graph.kinds) {
-            lowest = Some(kind);
+        if units[kind] == 0 && kind < lowest {
+            lowest = kind;
         }
     }
-    lowest
+    if lowest < graph.kinds {
+        return Some(lowest);
+    }
+    None
 }
 
 // Refusal 6, of a sound graph: the lowest type in use that has no unit is refused.
